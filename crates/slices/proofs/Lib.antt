@@ -1,0 +1,6 @@
+-- Laws for proofs of functions: loops that fill a slice, parts that are lent and come back, rows, arrays, numbers.
+pub mod Fill
+pub mod Put
+pub mod Rows
+pub mod Array
+pub mod Numbers

@@ -1,0 +1,110 @@
+-- `put`: a part that was lent comes back as one, and what it does to lengths, parts and further stores. Assumes nothing.
+use mathlib.Core.Path.{_≡_, refl, sym, ap, _∙_}
+use mathlib.Core.List.{List, [], _∷_, _++_, append-assoc, append-nil}
+use Prim.Native.Nat.{ℕ, suc, _+_, _-_, _<_, _≤_}
+use native.Mathlib.Nat.{add-zero}
+use native.Mathlib.Omega.{arith}
+use lib.ListN.{length, getD, set, take, drop, length-append, length-drop, take-append-drop, drop-of-length-le}
+use lib.Seq.{drop-cons, set-at, take-all, drop-drop, drop-at, take-at, drop-append-add, length-take-le}
+use borrow.Rule.Slice.PartMut.{putMid}
+use Rattle.slices.specs.Lists.{put}
+
+-- what a callee left in `&mut d[a..a + k]`, said of d
+pub put-mid : (a k : ℕ) (d y s : List ℕ) → y ≡ s → k ≡ length s → putMid a k d y ≡ put d a s
+unfolding put
+put-mid a k d y s e h = simp (e, h, drop-drop)
+
+pub length-put : (d : List ℕ) (at : ℕ) (s : List ℕ) → at + length s ≤ length d → length (put d at s) ≡ length d
+unfolding put
+length-put d at s h =
+    let e : length (take at d) ≡ at = length-take-le at d (omega arith) in
+    simp (length-append, length-drop, e) (omega arith)
+
+-- the part up to where s ends
+pub take-put : (d : List ℕ) (at : ℕ) (s : List ℕ) → at ≤ length d → take (at + length s) (put d at s) ≡ take at d ++ s
+unfolding put
+take-put d at s h =
+    let e : length (take at d ++ s) ≡ at + length s = length-append (take at d) s ∙ ap (λ (x : ℕ). x + length s) (length-take-le at d h) in
+    rw (← append-assoc (take at d) s (drop (at + length s) d)) (take-at (take at d ++ s) (drop (at + length s) d) (at + length s) e)
+
+-- nothing is put
+pub put-none : (d : List ℕ) (at : ℕ) → d ≡ put d at []
+unfolding put
+put-none d at = sym (ap (λ (n : ℕ). take at d ++ drop n d) (add-zero at) ∙ take-append-drop at d)
+
+-- one element more
+pub put-snoc : (d : List ℕ) (at : ℕ) (s : List ℕ) (x : ℕ) → at + length s < length d
+    → set (put d at s) (at + length s) x ≡ put d at (s ++ (x ∷ []))
+unfolding put
+put-snoc d at s x h =
+    let e : length (take at d ++ s) ≡ at + length s = length-append (take at d) s ∙ ap (λ (n : ℕ). n + length s) (length-take-le at d (omega arith)) in
+    let n : at + length (s ++ (x ∷ [])) ≡ suc (at + length s) = simp length-append (omega arith) in
+    rw (n, drop-cons d (at + length s) 0 h, ← append-assoc (take at d) s (getD d (at + length s) 0 ∷ drop (suc (at + length s)) d))
+    (set-at (take at d ++ s) (getD d (at + length s) 0) (drop (suc (at + length s)) d) x (at + length s) e ∙ simp append-assoc)
+
+-- d with its front replaced by p
+unfoldable pub front : List ℕ → List ℕ → List ℕ
+front p d = p ++ drop (length p) d
+
+pub front-none : (d : List ℕ) → d ≡ front [] d
+unfolding front
+front-none d = refl
+
+-- a field written where the fields before it end
+pub front-more : (p d s : List ℕ) {l r : List ℕ} {at : ℕ} → l ≡ front p d → at ≡ length p → r ≡ put l at s → r ≡ front (p ++ s) d
+unfolding front put
+front-more p d s {l} {r} {at} e h w =
+    w ∙ rw (e, h)
+    (simp (take-at p (drop (length p) d) (length p) refl, drop-append-add p (drop (length p) d) (length s), drop-drop, length-append, append-assoc))
+
+-- l is d with its first n elements replaced by p
+pub record Wrote (d p : List ℕ) (n : ℕ) (l : List ℕ) : Type 0 where
+  pub is : l ≡ front p d
+  pub size : length p ≡ n
+  pub long : length l ≡ length d
+
+pub wrote-none : (d : List ℕ) → Wrote d [] 0 d
+wrote-none d = record { is = front-none d; size = refl; long = refl }
+
+-- the next field
+pub wrote-more : (s : List ℕ) {d p l r : List ℕ} {n m : ℕ} → Wrote d p n l → length s ≡ m → r ≡ put l n s → length r ≡ length l → Wrote d (p ++ s) (n + m) r
+wrote-more s {d} {p} {l} {r} {n} {m} w h e k =
+    record { is = front-more p d s (w .is) (sym (w .size)) e; size = simp (length-append, w .size, h); long = k ∙ w .long }
+
+-- the whole
+pub wrote-all : {d p l : List ℕ} {n : ℕ} → Wrote d p n l → l ≡ p ++ drop n d
+unfolding front
+wrote-all {d} {p} {l} {n} w = w .is ∙ rw (w .size)
+
+-- a part of d that was lent and came back as y, as long as it was
+module _ (a k : ℕ) (d y : List ℕ) (fits : a + k ≤ length d) (kept : length y ≡ length (take k (drop a d))) where
+  back-long : length y ≡ k
+  back-long = kept ∙ length-take-le k (drop a d) (omega (arith, length-drop a d))
+
+  -- the part is read again
+  pub part-back : take k (drop a (putMid a k d y)) ≡ y
+  part-back =
+      rw (drop-at (take a d) (y ++ drop k (drop a d)) a (length-take-le a d (omega arith)))
+      (take-at y (drop k (drop a d)) k back-long)
+
+  -- what stands after the part is as it was
+  pub after-kept : (n : ℕ) → a + k ≤ n → drop n (putMid a k d y) ≡ drop n d
+  after-kept n h =
+      let e : n ≡ a + k + (n - (a + k)) = omega arith in
+      let l : length (take a d) ≡ a = length-take-le a d (omega arith) in
+      let split : (s : List ℕ) → drop n s ≡ drop (n - (a + k)) (drop k (drop a s)) =
+      λ s. ap (λ (m : ℕ). drop m s) e ∙ sym (ap (drop (n - (a + k))) (drop-drop k a s) ∙ drop-drop (n - (a + k)) (a + k) s) in
+      split (putMid a k d y)
+      ∙ rw (drop-at (take a d) (y ++ drop k (drop a d)) a l, drop-at y (drop k (drop a d)) k back-long) (sym (split d))
+
+-- a front of a elements and then all behind it, each lent and written
+pub put-two : (a : ℕ) (d : List ℕ) {y y′ z z′ : List ℕ} → y ≡ y′ → length y′ ≡ a → z ≡ z′
+    → putMid a (length (putMid 0 a d y) - a) (putMid 0 a d y) z ≡ y′ ++ z′
+put-two a d {y} {y′} {z} {z′} e h f =
+    let room : length (drop a d) ≤ length (y′ ++ drop a d) - a = omega (arith, length-append y′ (drop a d)) in
+    let end : drop (length (y′ ++ drop a d) - a) (drop a d) ≡ [] = drop-of-length-le (drop a d) room in
+    rw (e, f, take-at y′ (drop a d) a h, drop-at y′ (drop a d) a h, end) (ap (y′ ++_) (append-nil z′))
+
+-- all of s from a on, as a part
+pub part-rest : (a : ℕ) (s : List ℕ) → take (length s - a) (drop a s) ≡ drop a s
+part-rest a s = take-all (length s - a) (drop a s) (omega (arith, length-drop a s))

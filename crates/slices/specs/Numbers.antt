@@ -1,0 +1,116 @@
+-- "Numbers take .. bytes, low byte first": the number that a list of bytes holds, and the bytes of a number. Assumes nothing.
+use mathlib.Core.Path.{_≡_, refl, sym, ap, ap₂, _∙_}
+use mathlib.Core.List.{List, [], _∷_, _++_}
+use Prim.Native.Nat.{ℕ, zero, suc, _+_, _*_, _/_, _%_, _^_, _<_, _≤_}
+use native.Mathlib.Nat.{mul-assoc, mod-lt, zero-lt-suc, not-suc-le-zero, le-of-suc-le-suc, mod-eq-of-lt, mod-one}
+use native.Mathlib.Omega.{arith}
+use lib.Bits.{bitXor, xor-comm, xor-shifted}
+use lib.ListN.{length, getD}
+use lib.Pow.{pow-pos, pow-add, shr-shr, mod-pow-add}
+use Rattle.slices.specs.Lists.{rows, row}
+use Rattle.slices.specs.Bytes.{Bytes, nil-bytes, cons-bytes, tail-bytes}
+use Rattle.slices.specs.Xor.{xor-assoc}
+
+unfoldable pub number : List ℕ → ℕ
+number [] = 0
+number (b ∷ s) = b + 256 * number s
+
+unfoldable pub bytesOf : ℕ → ℕ → List ℕ
+bytesOf zero x = []
+bytesOf (suc n) x = x % 256 ∷ bytesOf n (x / 256)
+
+-- number k of a list, where a number has w bytes
+abbrev pub numberAt : ℕ → ℕ → List ℕ → ℕ
+numberAt w k s = number (row w k s)
+
+-- the numbers f 0, .. f (n - 1), of w bytes each
+abbrev pub numbers : ℕ → ℕ → (ℕ → ℕ) → List ℕ
+numbers w n f = rows (λ k. bytesOf w (f k)) n
+
+-- ---- the bytes of a number
+
+pub length-bytesOf : (n x : ℕ) → length (bytesOf n x) ≡ n
+unfolding bytesOf
+length-bytesOf zero x = refl
+length-bytesOf (suc n) x = ap suc (length-bytesOf n (x / 256))
+
+pub bytesOf-bytes : (n x : ℕ) → Bytes (bytesOf n x)
+unfolding bytesOf
+bytesOf-bytes zero x = nil-bytes
+bytesOf-bytes (suc n) x = cons-bytes (mod-lt x (zero-lt-suc 255)) (bytesOf-bytes n (x / 256))
+
+eight : (n : ℕ) → 8 * suc n ≡ 8 + 8 * n
+eight n = omega arith
+
+pow-eight : (n : ℕ) → 2 ^ (8 * suc n) ≡ 256 * 2 ^ (8 * n)
+pow-eight n = ap (2 ^_) (eight n) ∙ pow-add 2 8 (8 * n)
+
+-- byte i
+pub getD-bytesOf : (n x i : ℕ) → i < n → getD (bytesOf n x) i 0 ≡ x / 2 ^ (8 * i) % 256
+unfolding bytesOf
+getD-bytesOf zero x i h = absurd (not-suc-le-zero h)
+getD-bytesOf (suc n) x zero h = ap (_% 256) (omega arith)
+getD-bytesOf (suc n) x (suc i) h =
+    getD-bytesOf n (x / 256) i (le-of-suc-le-suc h) ∙ ap (_% 256) (shr-shr x 8 (8 * i) ∙ ap (λ k. x / 2 ^ k) (sym (eight i)))
+
+-- one byte more
+pub bytesOf-snoc : (n x : ℕ) → bytesOf (suc n) x ≡ bytesOf n x ++ (x / 2 ^ (8 * n) % 256 ∷ [])
+unfolding bytesOf
+bytesOf-snoc zero x = ap (λ y. y % 256 ∷ []) (omega arith)
+bytesOf-snoc (suc n) x =
+    ap (x % 256 ∷_)
+    (bytesOf-snoc n (x / 256) ∙ ap (λ y. bytesOf n (x / 256) ++ (y % 256 ∷ [])) (shr-shr x 8 (8 * n) ∙ ap (λ k. x / 2 ^ k) (sym (eight n))))
+
+-- ---- the number of a list
+
+pub number-snoc : (s : List ℕ) (b : ℕ) → number (s ++ (b ∷ [])) ≡ number s + b * 2 ^ (8 * length s)
+unfolding number
+number-snoc [] b = omega arith
+number-snoc (x ∷ s) b =
+    omega (arith, number-snoc s b, ap (b *_) (pow-eight (length s)), sym (mul-assoc b 256 (2 ^ (8 * length s))), mul-left b (2 ^ (8 * length s)))
+  where
+    mul-left : (b p : ℕ) → b * 256 * p ≡ 256 * (b * p)
+    mul-left b p = ap (_* p) (comm b) ∙ mul-assoc 256 b p
+      where
+        comm : (b : ℕ) → b * 256 ≡ 256 * b
+        comm b = omega arith
+
+pub number-lt : (s : List ℕ) (w : ℕ) → Bytes s → length s ≤ w → number s < 2 ^ (8 * w)
+unfolding number
+number-lt [] w p l = pow-pos (8 * w)
+number-lt (b ∷ s) zero p l = absurd (omega arith)
+number-lt (b ∷ s) (suc w) p l = omega (arith, number-lt s w (tail-bytes p) (omega arith), p .lt 0, pow-eight w)
+
+-- what is added above a number's bytes is one byte more
+pub xor-snoc : (a : ℕ) (s : List ℕ) (b : ℕ) → Bytes s → bitXor (bitXor a (number s)) (b * 2 ^ (8 * length s)) ≡ bitXor a (number (s ++ (b ∷ [])))
+xor-snoc a s b p =
+    xor-assoc a (number s) (b * 2 ^ (8 * length s))
+    ∙ ap (bitXor a) (xor-comm (number s) (b * 2 ^ (8 * length s)) ∙ xor-shifted b (8 * length s) (number s) (number-lt s (length s) p (omega arith)) ∙ sum)
+  where
+    sum : b * 2 ^ (8 * length s) + number s ≡ number (s ++ (b ∷ []))
+    sum = omega (arith, number-snoc s b)
+
+-- ---- there and back
+
+pub number-bytesOf : (n x : ℕ) → number (bytesOf n x) ≡ x % 2 ^ (8 * n)
+unfolding number bytesOf
+number-bytesOf zero x = sym (mod-one x)
+number-bytesOf (suc n) x =
+    ap (λ y. x % 256 + 256 * y) (number-bytesOf n (x / 256)) ∙ omega (arith, split)
+  where
+    split : x % 2 ^ (8 * suc n) ≡ x / 256 % 2 ^ (8 * n) * 256 + x % 256
+    split = ap (λ k. x % 2 ^ k) swap ∙ mod-pow-add x (8 * n) 8
+      where
+        swap : 8 * suc n ≡ 8 * n + 8
+        swap = omega arith
+
+pub bytesOf-number : (s : List ℕ) (n : ℕ) → Bytes s → length s ≡ n → bytesOf n (number s) ≡ s
+unfolding number bytesOf
+bytesOf-number [] zero p e = refl
+bytesOf-number [] (suc n) p e = absurd (omega arith)
+bytesOf-number (b ∷ s) zero p e = absurd (omega arith)
+bytesOf-number (b ∷ s) (suc n) p e =
+    let h : b < 256 = p .lt 0 in
+    let low : (b + 256 * number s) % 256 ≡ b = omega arith in
+    let high : (b + 256 * number s) / 256 ≡ number s = omega arith in
+    ap₂ _∷_ low (ap (bytesOf n) high ∙ bytesOf-number s n (tail-bytes p) (omega arith))

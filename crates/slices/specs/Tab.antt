@@ -1,0 +1,71 @@
+-- Laws of `tab` and `rows`. Assumes nothing.
+use mathlib.Core.Path.{_≡_, refl, sym, ap, ap₂, _∙_}
+use mathlib.Core.List.{List, [], _∷_, _++_}
+use Prim.Native.Nat.{ℕ, zero, suc, _+_, _*_, _<_, _≤_}
+use native.Mathlib.Nat.{add-zero, add-suc, suc-add, le-of-suc-le-suc, not-suc-le-zero, suc-mul, zero-mul}
+use native.Mathlib.Decide.{ℕ-discrete}
+use native.Mathlib.Omega.{arith}
+use lib.Arith.{digits-lt}
+use lib.ListN.{length, getD, take, drop, replicate, length-append, List·getD-append}
+use lib.Seq.{getD-append-add, getD-take, getD-drop}
+use Rattle.slices.specs.Lists.{tab, rows, part}
+
+-- ---- tab
+
+pub length-tab : {A : Type 0} (f : ℕ → A) (n : ℕ) → length (tab f n) ≡ n
+length-tab f zero = refl
+length-tab f (suc n) = ap suc (length-tab (λ k. f (suc k)) n)
+
+pub getD-tab : {A : Type 0} (f : ℕ → A) (n i : ℕ) (d : A) → i < n → getD (tab f n) i d ≡ f i
+getD-tab f zero i d h = absurd (not-suc-le-zero h)
+getD-tab f (suc n) zero d h = refl
+getD-tab f (suc n) (suc i) d h = getD-tab (λ k. f (suc k)) n i d (le-of-suc-le-suc h)
+
+pub tab-cong : {A : Type 0} {f g : ℕ → A} (n : ℕ) → ((i : ℕ) → i < n → f i ≡ g i) → tab f n ≡ tab g n
+tab-cong zero h = refl
+tab-cong (suc n) h = ap₂ _∷_ (h 0 (omega arith)) (tab-cong n (λ i l. h (suc i) (omega arith)))
+
+-- the elements of a list
+pub tab-list : (s : List ℕ) → tab (λ k. getD s k 0) (length s) ≡ s
+tab-list [] = refl
+tab-list (x ∷ s) = ap (x ∷_) (tab-list s)
+
+pub tab-same : (x n : ℕ) → tab (λ k. x) n ≡ replicate n x
+tab-same x zero = refl
+tab-same x (suc n) = ap (x ∷_) (tab-same x n)
+
+-- one more at the end
+pub tab-snoc : {A : Type 0} (f : ℕ → A) (n : ℕ) (xs : List A) → tab f n ++ (f n ∷ xs) ≡ tab f (suc n) ++ xs
+tab-snoc f zero xs = refl
+tab-snoc f (suc n) xs = ap (f 0 ∷_) (tab-snoc (λ k. f (suc k)) n xs)
+
+pub take-tab : {A : Type 0} (f : ℕ → A) (n m : ℕ) → n ≤ m → take n (tab f m) ≡ tab f n
+take-tab f zero m h = refl
+take-tab f (suc n) zero h = absurd (not-suc-le-zero h)
+take-tab f (suc n) (suc m) h = ap (f 0 ∷_) (take-tab (λ k. f (suc k)) n m (le-of-suc-le-suc h))
+
+-- the first k elements of a part
+pub tab-part : (k a m : ℕ) (s : List ℕ) → k ≤ m → tab (λ i. getD (part a m s) i 0) k ≡ tab (λ i. getD s (a + i) 0) k
+tab-part k a m s h = tab-cong k (λ i l. getD-take m (drop a s) i 0 (omega arith) ∙ getD-drop a s i 0)
+
+-- ---- rows
+
+pub length-rows : (k : ℕ) (f : ℕ → List ℕ) (n : ℕ) → ((j : ℕ) → length (f j) ≡ k) → length (rows f n) ≡ n * k
+length-rows k f zero h = sym (zero-mul k)
+length-rows k f (suc n) h = length-append (rows f n) (f n) ∙ ap₂ _+_ (length-rows k f n h) (h n) ∙ sym (suc-mul n k)
+
+pub rows-cong : {f g : ℕ → List ℕ} (n : ℕ) → ((j : ℕ) → j < n → f j ≡ g j) → rows f n ≡ rows g n
+rows-cong zero h = refl
+rows-cong (suc n) h = ap₂ _++_ (rows-cong n (λ j l. h j (omega arith))) (h n (omega arith))
+
+-- element i of row j
+pub getD-rows : (k : ℕ) (f : ℕ → List ℕ) (n : ℕ) → ((j : ℕ) → length (f j) ≡ k) → (j i : ℕ) → j < n → i < k
+    → getD (rows f n) (j * k + i) 0 ≡ getD (f j) i 0
+getD-rows k f zero s j i h l = absurd (not-suc-le-zero h)
+getD-rows k f (suc n) s j i h l = go (ℕ-discrete j n) (λ m. getD-rows k f n s j i m l)
+  where
+    go : Dec (j ≡ n) → (j < n → getD (rows f n) (j * k + i) 0 ≡ getD (f j) i 0) → getD (rows f n ++ f n) (j * k + i) 0 ≡ getD (f j) i 0
+    go (yes e) r = rw (e, ← length-rows k f n s) (getD-append-add (rows f n) (f n) i 0)
+    go (no ne) r =
+        let m : j < n = omega arith in
+        List·getD-append (rows f n) (f n) 0 (j * k + i) (rw (length-rows k f n s) (digits-lt m l)) ∙ r m
