@@ -1,0 +1,1 @@
+// Definitions and laws alone: polynomials over any field of characteristic 2.
