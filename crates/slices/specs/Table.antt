@@ -23,5 +23,5 @@ from f (x ∷ xs) i t (suc k) h =
     subst (λ m. T (f m (getD xs k 0))) (suc-add i k ∙ sym (add-suc i k))
     (from f xs (suc i) (both (f i x) (every f (suc i) xs) t .1) k (le-of-suc-le-suc h))
 
-pub at : (f : ℕ → ℕ → Bool) (xs : List ℕ) → T (every f 0 xs) → (k : ℕ) → k < length xs → T (f k (getD xs k 0))
-at f xs t k h = subst (λ m. T (f m (getD xs k 0))) (zero-add k) (from f xs 0 t k h)
+pub every-at : (f : ℕ → ℕ → Bool) (xs : List ℕ) → T (every f 0 xs) → (k : ℕ) → k < length xs → T (f k (getD xs k 0))
+every-at f xs t k h = subst (λ m. T (f m (getD xs k 0))) (zero-add k) (from f xs 0 t k h)
