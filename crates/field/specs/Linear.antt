@@ -1,12 +1,14 @@
 -- Numbers as vectors of bits, with `bitXor` for their sum, and the additive maps between them. Assumes nothing.
 use mathlib.Core.Path.{_≡_, refl, sym, ap, ap₂, _∙_}
-use mathlib.Core.List.{List, [], _∷_, map}
-use Prim.Native.Nat.{ℕ, zero, suc, _*_, _/_, _%_, _^_, _<_}
+use mathlib.Core.List.{List, [], _∷_, _++_, map}
+use Prim.Native.Nat.{ℕ, zero, suc, _+_, _*_, _/_, _%_, _^_, _<_}
 use native.Mathlib.Nat.{mod-one}
 use native.Mathlib.Numerals.{add-one}
-use lib.Pow.{mod-pow-add}
+use native.Mathlib.Omega.{arith}
+use lib.ListN.{length}
+use lib.Pow.{mod-pow-add, shr-shr, mod-mod-pow, field}
 use lib.Bits.{bitXor, xor-comm, xor-self, xor-zero-r, xor-shr, xor-mod, xor-shifted}
-use Rattle.slices.specs.Xor.{by-digit, digit, xor-swap, xor-left-cancel, xor-shl}
+use Rattle.slices.specs.Xor.{by-digit, digit, xor-assoc, xor-swap, xor-left-cancel, xor-shl}
 
 -- x where the digit is 1, zero where it is 0
 abbrev pub pick : ℕ → ℕ → ℕ
@@ -116,3 +118,27 @@ pub cyclic : (n : ℕ) (X Y : ℕ → ℕ) {F : ℕ → ℕ} → orbit n X 1 ≡
     → F (b % 2 ^ n) ≡ combine (orbit n Y (F 1)) b
 cyclic n X Y {F} start h c b =
     by-basis h n b ∙ ap (λ l. combine (map F l) b) (sym start) ∙ ap (λ l. combine l b) (orbit-map X Y F c n 1)
+
+-- ---- a combination in two parts: the low bits and the others
+
+pub combine-append : (xs ys : List ℕ) (b : ℕ) → combine (xs ++ ys) b ≡ bitXor (combine xs b) (combine ys (b / 2 ^ length xs))
+unfolding combine
+combine-append [] ys b = ap (combine ys) (omega arith)
+combine-append (x ∷ xs) ys b =
+    ap (bitXor (pick (b % 2) x)) (combine-append xs ys (b / 2))
+    ∙ sym (xor-assoc (pick (b % 2) x) (combine xs (b / 2)) (combine ys (b / 2 / 2 ^ length xs)))
+    ∙ ap (λ c. bitXor (bitXor (pick (b % 2) x) (combine xs (b / 2))) (combine ys c)) (shr-shr b 1 (length xs) ∙ ap (λ n. b / 2 ^ n) (one-more (length xs)))
+  where
+    one-more : (n : ℕ) → 1 + n ≡ suc n
+    one-more n = omega arith
+
+-- only as many bits count as the list is long
+pub combine-low : (xs : List ℕ) (b : ℕ) → combine xs (b % 2 ^ length xs) ≡ combine xs b
+unfolding combine
+combine-low [] b = refl
+combine-low (x ∷ xs) b =
+    ap₂ (λ d c. bitXor (pick d x) (combine xs c)) (ap (λ k. b % 2 ^ k % 2) (more (length xs)) ∙ mod-mod-pow b (length xs) 1)
+    (ap (λ k. b % 2 ^ k / 2) (more (length xs)) ∙ field b (length xs) 1) ∙ ap (bitXor (pick (b % 2) x)) (combine-low xs (b / 2))
+  where
+    more : (n : ℕ) → suc n ≡ n + 1
+    more n = omega arith

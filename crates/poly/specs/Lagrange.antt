@@ -124,7 +124,7 @@ module _ {A : Type 0} {O : Ops A} {Elem : A → Type 0} (F : BinaryField O Elem)
       go : length (basisPoly O pt k n) ≡ n → n ≢ k → length (pmul O (fp k n) (basisPoly O pt k n)) ≡ suc n
       go h ne = length-factor k n (basisPoly O pt k n) (omega arith) ∙ ap suc h
 
-  elem-basis : {N : ℕ} → Points Elem pt N → (k n : ℕ) → k < N → n ≤ N → All Elem (basisPoly O pt k n)
+  pub elem-basis : {N : ℕ} → Points Elem pt N → (k n : ℕ) → k < N → n ≤ N → All Elem (basisPoly O pt k n)
   unfolding basisPoly
   elem-basis P k zero l m = (F .elem-one, tt)
   elem-basis P k (suc n) l m =

@@ -97,13 +97,18 @@ module _ (a k : ℕ) (d y : List ℕ) (fits : a + k ≤ length d) (kept : length
       split (putMid a k d y)
       ∙ rw (drop-at (take a d) (y ++ drop k (drop a d)) a l, drop-at y (drop k (drop a d)) k back-long) (sym (split d))
 
--- a front of a elements and then all behind it, each lent and written
+-- a front of a elements and then k elements that are all the rest, each lent and written
+pub put-pair : (a k : ℕ) (d : List ℕ) {y y′ z z′ : List ℕ} → y ≡ y′ → length y′ ≡ a → z ≡ z′ → length d ≤ a + k
+    → putMid a k (putMid 0 a d y) z ≡ y′ ++ z′
+put-pair a k d {y} {y′} {z} {z′} e h f room =
+    let end : drop k (drop a d) ≡ [] = drop-of-length-le (drop a d) {i = k} (omega (arith, length-drop a d)) in
+    rw (e, f, take-at y′ (drop a d) a h, drop-at y′ (drop a d) a h, end) (ap (y′ ++_) (append-nil z′))
+
+-- the same where the rest is lent as `&mut d[a..]`
 pub put-two : (a : ℕ) (d : List ℕ) {y y′ z z′ : List ℕ} → y ≡ y′ → length y′ ≡ a → z ≡ z′
     → putMid a (length (putMid 0 a d y) - a) (putMid 0 a d y) z ≡ y′ ++ z′
-put-two a d {y} {y′} {z} {z′} e h f =
-    let room : length (drop a d) ≤ length (y′ ++ drop a d) - a = omega (arith, length-append y′ (drop a d)) in
-    let end : drop (length (y′ ++ drop a d) - a) (drop a d) ≡ [] = drop-of-length-le (drop a d) room in
-    rw (e, f, take-at y′ (drop a d) a h, drop-at y′ (drop a d) a h, end) (ap (y′ ++_) (append-nil z′))
+put-two a d {y} {y′} e h f =
+    put-pair a (length (putMid 0 a d y) - a) d e h f (rw e (omega (arith, length-append y′ (drop a d), length-drop a d)))
 
 -- all of s from a on, as a part
 pub part-rest : (a : ℕ) (s : List ℕ) → take (length s - a) (drop a s) ≡ drop a s

@@ -1,6 +1,6 @@
 -- Laws of `tab` and `rows`. Assumes nothing.
 use mathlib.Core.Path.{_≡_, refl, sym, ap, ap₂, _∙_}
-use mathlib.Core.List.{List, [], _∷_, _++_}
+use mathlib.Core.List.{List, [], _∷_, _++_, map}
 use Prim.Native.Nat.{ℕ, zero, suc, _+_, _*_, _<_, _≤_}
 use native.Mathlib.Nat.{add-zero, add-suc, suc-add, le-of-suc-le-suc, not-suc-le-zero, suc-mul, zero-mul}
 use native.Mathlib.Decide.{ℕ-discrete}
@@ -29,6 +29,10 @@ tab-cong (suc n) h = ap₂ _∷_ (h 0 (omega arith)) (tab-cong n (λ i l. h (suc
 pub tab-list : (s : List ℕ) → tab (λ k. getD s k 0) (length s) ≡ s
 tab-list [] = refl
 tab-list (x ∷ s) = ap (x ∷_) (tab-list s)
+
+pub tab-map : (f : ℕ → ℕ) (s : List ℕ) → tab (λ k. f (getD s k 0)) (length s) ≡ map f s
+tab-map f [] = refl
+tab-map f (x ∷ s) = ap (f x ∷_) (tab-map f s)
 
 pub tab-same : (x n : ℕ) → tab (λ k. x) n ≡ replicate n x
 tab-same x zero = refl

@@ -1,0 +1,3 @@
+-- The definitions that the contracts of `lagrange` cite.
+pub mod Values
+pub mod Tables

@@ -1,0 +1,52 @@
+-- Lagrange's values: what the polynomials that are one at one of the points 0 to n - 1 and zero at the others are at x. A dot product with
+-- them is the value at x of the interpolating polynomial. In the field of X^w + low; "points are wide elements with those numbers".
+-- Assumes nothing.
+use mathlib.Core.Path.{_≡_, refl, sym, ap, _∙_, subst}
+use Prim.Native.Nat.{ℕ, zero, suc, _≤_, _<_, _^_}
+use native.Mathlib.Omega.{arith}
+use lib.Bits.{bitXor}
+use Rattle.poly.specs.Index.{at, at-same, at-other}
+use Rattle.poly.specs.Field.{BinaryField, zero-mul, mul-comm}
+use Rattle.poly.specs.Sum.{sum, sum-cong, sum-only}
+use Rattle.poly.specs.Poly.{eval, elem-eval}
+use Rattle.poly.specs.Lagrange.{Points, numbers, basisPoly, interpolate, basis, lagrange, elem-basis, eval-basis, eval-interpolate}
+use Rattle.field.specs.Ring.{mul}
+use Rattle.field.specs.Wide.{ops, Element}
+
+module _ (w low : ℕ) where
+  -- the value at x of the interpolating polynomial with the values v 0, .. v (n - 1) at the points 0, .. n - 1
+  unfoldable pub interpolated : ℕ → (ℕ → ℕ) → ℕ → ℕ
+  interpolated n v x = eval (ops w low) (interpolate (ops w low) (λ i. i) n v) x
+
+  -- for the values one at k and zero elsewhere
+  unfoldable pub lagrangeValue : ℕ → ℕ → ℕ → ℕ
+  lagrangeValue n x k = interpolated n (λ i. at i k 1 0) x
+
+  -- f 0 g 0 + .. + f (n - 1) g (n - 1)
+  unfoldable pub dotProduct : ℕ → (ℕ → ℕ) → (ℕ → ℕ) → ℕ
+  dotProduct n f g = sum (ops w low) n (λ k. mul w low (f k) (g k))
+
+  -- the product of x - i over i < n
+  unfoldable pub upto : ℕ → ℕ → ℕ
+  upto x zero = 1
+  upto x (suc n) = mul w low (upto x n) (bitXor x n)
+
+-- ---- laws
+
+module _ (w low : ℕ) (F : BinaryField (ops w low) (Element w)) (n : ℕ) (points : n ≤ 2 ^ w) (x : ℕ) (h : Element w x) where
+  elem-value : (k : ℕ) → k < n → Element w (basis (ops w low) (λ i. i) k n x)
+  elem-value k l =
+      subst (Element w) (eval-basis F (λ i. i) k n x)
+      (elem-eval F (basisPoly (ops w low) (λ i. i) k n) x (elem-basis F (λ i. i) (numbers n (2 ^ w) points) k n l (omega arith)) h)
+
+  pub value-basis : (k : ℕ) → k < n → lagrangeValue w low n x k ≡ basis (ops w low) (λ i. i) k n x
+  unfolding lagrangeValue interpolated lagrange
+  value-basis k l =
+      eval-interpolate F (λ i. i) n (λ i. at i k 1 0) x
+      ∙ sum-only F n _ k l (λ i m ne. ap (λ a. mul w low a (basis (ops w low) (λ i. i) i n x)) (at-other i k 1 0 ne) ∙ zero-mul F _)
+      ∙ ap (λ a. mul w low a (basis (ops w low) (λ i. i) k n x)) (at-same k k 1 0 refl) ∙ mul-comm F 1 _ ∙ F .mul-one _ (elem-value k l)
+
+  -- the sum of the values v k times Lagrange's values
+  pub dot-interpolated : (v : ℕ → ℕ) → dotProduct w low n v (lagrangeValue w low n x) ≡ interpolated w low n v x
+  unfolding dotProduct interpolated lagrange
+  dot-interpolated v = sum-cong (ops w low) n (λ k l. ap (mul w low (v k)) (value-basis k l)) ∙ sym (eval-interpolate F (λ i. i) n v x)

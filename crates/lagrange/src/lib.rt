@@ -1,0 +1,324 @@
+// Values of interpolating polynomials at a point, in the field of X^bits + low: Lagrange's values for the points 0, 1, .. by products of
+// x - i before and after each point and constant weights, with no division, so that x may be a point; and dot products with them.
+ghost use mathlib.Core.Path.{_≡_};
+ghost use mathlib.Core.List.{map};
+ghost use Prim.Native.Nat.{_*_, _+_, _/_, _%_, _≤_, _<_, _^_};
+ghost use lib.Bits.{bitXor};
+ghost use lib.ListN.{length, getD};
+ghost use Rattle.slices.specs.Lists.{tab, rows as stacked};
+ghost use Rattle.field.specs.Linear.{combine};
+ghost use Rattle.field.specs.Ring.{mul as product};
+ghost use Rattle.field.specs.Wide.{Element};
+ghost use Rattle.field.specs.Fits.{Fits};
+ghost use Rattle.weights.specs.Weights.{Weights};
+ghost use Rattle.lagrange.specs.Values.{upto, lagrangeValue, dotProduct};
+ghost use Rattle.lagrange.specs.Tables.{halves as halvesOf, tableOf, tabled};
+
+// The products of x - i over i < k, for each k.
+fn prefixes(bits: u32, low: u64, x: u64, out: &mut [u64])
+    requires { ⌜ Fits bits low ⌝ }
+    ensures { λ _. ⌜ now (out .exit) ≡ tab (upto bits low x) (length (now (out .entry))) ⌝ }
+{
+    let mut product = 1;
+    for k in 0..out.len() {
+        out[k] = product;
+        product = field::mul(bits, low, product, x ^ (k as u64));
+    }
+}
+
+// Lagrange's values at x, for as many points as there are weights.
+pub fn values(bits: u32, low: u64, x: u64, weights: &[u64], out: &mut [u64])
+    requires { ⌜ Fits bits low × Element bits x × (length (now out) ≡ length (now weights)) × Weights bits low (length (now weights)) (now weights) ⌝ }
+    ensures { λ _. ⌜ now (out .exit) ≡ tab (lagrangeValue bits low (length (now (weights .entry))) x) (length (now (weights .entry))) ⌝ }
+{
+    prefixes(bits, low, x, out);
+    let mut product = 1;
+    let mut k = out.len();
+    while k > 0 {
+        k -= 1;
+        let numerator = field::mul(bits, low, out[k], product);
+        out[k] = field::mul(bits, low, numerator, weights[k]);
+        product = field::mul(bits, low, product, x ^ (k as u64));
+    }
+}
+
+const WEIGHTS32_21: [u64; 21] = [
+    2991171737,
+    2468459734,
+    3506045523,
+    212800571,
+    3515103469,
+    4267841898,
+    1524613308,
+    2282023708,
+    2798704430,
+    1462048435,
+    3757413554,
+    3082253944,
+    3255823475,
+    1716053899,
+    1989392227,
+    1264820172,
+    3245188521,
+    4275796852,
+    2176239310,
+    3666489699,
+    1686776176,
+];
+
+// Lagrange's values at x for the points 0 to 20 in the field of 32 bits.
+pub fn values32_21(x: u64, out: &mut [u64])
+    requires { ⌜ (x < 2 ^ 32) × (length (now out) ≡ 21) ⌝ }
+    ensures { λ _. ⌜ now (out .exit) ≡ tab (lagrangeValue 32 0x8d 21 x) 21 ⌝ }
+{
+    let weights = WEIGHTS32_21;
+    values(32, 0x8d, x, &weights, out);
+}
+
+const WEIGHTS32_41: [u64; 41] = [
+    2734028328,
+    389991967,
+    4016518589,
+    554988476,
+    662291279,
+    4250808330,
+    634914918,
+    3167303872,
+    1790272774,
+    1345635075,
+    2981076129,
+    3948549291,
+    1122527253,
+    3783794754,
+    2443148546,
+    1778755215,
+    1991392627,
+    1867139234,
+    872711779,
+    2113062203,
+    3859036419,
+    1517932415,
+    2773355235,
+    3955972044,
+    2511893512,
+    1453270436,
+    4279856993,
+    2372836829,
+    2979662433,
+    603514597,
+    2710134757,
+    541953451,
+    3212324980,
+    1438660315,
+    3428859833,
+    1177738425,
+    709894179,
+    1482497318,
+    4280298992,
+    2009060693,
+    2591563791,
+];
+
+// Lagrange's values at x for the points 0 to 40 in the field of 32 bits.
+pub fn values32_41(x: u64, out: &mut [u64])
+    requires { ⌜ (x < 2 ^ 32) × (length (now out) ≡ 41) ⌝ }
+    ensures { λ _. ⌜ now (out .exit) ≡ tab (lagrangeValue 32 0x8d 41 x) 41 ⌝ }
+{
+    let weights = WEIGHTS32_41;
+    values(32, 0x8d, x, &weights, out);
+}
+
+const WEIGHTS48_21: [u64; 21] = [
+    171190615261241,
+    42412826617781,
+    26697309108569,
+    145873277091900,
+    247822904950425,
+    168132435386211,
+    119828286828700,
+    57966113656719,
+    228831955930173,
+    268791725967887,
+    119648849685272,
+    147530404245553,
+    187986482629470,
+    46100337836908,
+    108419156231245,
+    51789971771748,
+    209610399868366,
+    55155090206282,
+    47541769517423,
+    80193871753497,
+    263164651783154,
+];
+
+// Lagrange's values at x for the points 0 to 20 in the field of 48 bits.
+pub fn values48_21(x: u64, out: &mut [u64])
+    requires { ⌜ (x < 2 ^ 48) × (length (now out) ≡ 21) ⌝ }
+    ensures { λ _. ⌜ now (out .exit) ≡ tab (lagrangeValue 48 0x2d 21 x) 21 ⌝ }
+{
+    let weights = WEIGHTS48_21;
+    values(48, 0x2d, x, &weights, out);
+}
+
+const WEIGHTS48_41: [u64; 41] = [
+    132514819140931,
+    211659490343330,
+    7772227821594,
+    28123488326505,
+    46045428060188,
+    190360269556934,
+    126715370207396,
+    65993934025342,
+    28554724729913,
+    172696026741744,
+    271104742987126,
+    119157013451170,
+    252141151276435,
+    218965934326392,
+    161080068085667,
+    215138297770695,
+    185521102405768,
+    34077998043960,
+    74712594434826,
+    200948057736741,
+    31246182547586,
+    105353286764007,
+    57233911242365,
+    10495000032849,
+    194238305157934,
+    17954628375510,
+    95535037638509,
+    262011919006953,
+    161715496253321,
+    236656727286033,
+    20849595346657,
+    127286151921875,
+    6206668308954,
+    244538684697678,
+    276509507845715,
+    161648198334703,
+    7447800643948,
+    6906583688720,
+    195009061640809,
+    90515306009721,
+    88179640468036,
+];
+
+// Lagrange's values at x for the points 0 to 40 in the field of 48 bits.
+pub fn values48_41(x: u64, out: &mut [u64])
+    requires { ⌜ (x < 2 ^ 48) × (length (now out) ≡ 41) ⌝ }
+    ensures { λ _. ⌜ now (out .exit) ≡ tab (lagrangeValue 48 0x2d 41 x) 41 ⌝ }
+{
+    let weights = WEIGHTS48_41;
+    values(48, 0x2d, x, &weights, out);
+}
+
+// The sum of coefficient k times value k, over the values.
+pub fn dot(bits: u32, low: u64, coefficients: &[u64], values: &[u64]) -> u64
+    requires { ⌜ Fits bits low × (length (now values) ≤ length (now coefficients)) ⌝ }
+    ensures { λ r. ⌜ r ≡ dotProduct bits low (length (now (values .entry))) (λ k. getD (now (values .entry)) k 0) (λ k. getD (now (coefficients .entry)) k 0) ⌝ }
+{
+    let mut sum: u64 = 0;
+    for k in 0..values.len() {
+        let term = field::mul(bits, low, values[k], coefficients[k]);
+        sum = sum ^ term;
+    }
+    sum
+}
+
+// The sum of those elements of p whose bit is set in v.
+fn combination(p: &[u64], v: usize) -> u64
+    ensures { λ r. ⌜ r ≡ combine (now (p .entry)) v ⌝ }
+{
+    let mut sum: u64 = 0;
+    let mut rest = v;
+    for i in 0..p.len() {
+        if rest % 2 == 1 {
+            sum = sum ^ p[i];
+        }
+        rest = rest / 2;
+    }
+    sum
+}
+
+// The sixteen combinations of four numbers.
+fn combinations(p: &[u64], out: &mut [u64])
+    requires { ⌜ length (now out) ≡ 16 ⌝ }
+    ensures { λ _. ⌜ now (out .exit) ≡ tab (combine (now (p .entry))) 16 ⌝ }
+{
+    for v in 0..16 {
+        out[v] = combination(p, v);
+    }
+}
+
+// The two tables of eight numbers.
+fn halves(p: &[u64], out: &mut [u64])
+    requires { ⌜ (length (now p) ≡ 8) × (length (now out) ≡ 32) ⌝ }
+    ensures { λ _. ⌜ now (out .exit) ≡ halvesOf (now (p .entry)) ⌝ }
+{
+    combinations(&p[0..4], &mut out[0..16]);
+    combinations(&p[4..8], &mut out[16..32]);
+}
+
+// c times each of s, in place.
+fn scale(bits: u32, low: u64, c: u64, s: &mut [u64])
+    requires { ⌜ Fits bits low ⌝ }
+    ensures { λ _. ⌜ now (s .exit) ≡ map (product bits low c) (now (s .entry)) ⌝ }
+{
+    for i in 0..s.len() {
+        s[i] = field::mul(bits, low, c, s[i]);
+    }
+}
+
+fn first_eight(s: &[u64]) -> [u64; 8]
+    requires { ⌜ length (now s) ≡ 8 ⌝ }
+    ensures { λ r. ⌜ r ≡ now (s .entry) ⌝ }
+{
+    [s[0], s[1], s[2], s[3], s[4], s[5], s[6], s[7]]
+}
+
+// The two tables of the coefficient c.
+fn table(bits: u32, low: u64, powers: &[u64], c: u64, out: &mut [u64])
+    requires { ⌜ Fits bits low × (length (now powers) ≡ 8) × (length (now out) ≡ 32) ⌝ }
+    ensures { λ _. ⌜ now (out .exit) ≡ tableOf bits low (now (powers .entry)) c ⌝ }
+{
+    let mut p = first_eight(powers);
+    scale(bits, low, c, &mut p);
+    halves(&p, out);
+}
+
+// The tables of each coefficient, one after the other; the lift of a byte is the combination of the eight powers.
+pub fn tables(bits: u32, low: u64, powers: &[u64], coefficients: &[u64], out: &mut [u64])
+    requires { ⌜ Fits bits low × (length (now powers) ≡ 8) × (length (now out) ≡ length (now coefficients) * 32) ⌝ }
+    ensures { λ _. ⌜ now (out .exit) ≡ stacked (λ k. tableOf bits low (now (powers .entry)) (getD (now (coefficients .entry)) k 0)) (length (now (coefficients .entry))) ⌝ }
+{
+    for k in 0..coefficients.len() {
+        let a = k * 32;
+        let e = a + 32;
+        table(bits, low, powers, coefficients[k], &mut out[a..e]);
+    }
+}
+
+// The sum over k < rows of coefficient k times the lift of byte j + m1 k, by the coefficients' tables.
+pub fn dot_tables(tables: &[u64], bytes: &[u8], rows: usize, m1: usize, j: usize) -> u64
+    requires { ⌜ (rows * 32 ≤ length (now tables)) × (m1 * rows ≤ length (now bytes)) × (j < m1) ⌝ }
+    ensures { λ r. ⌜ r ≡ tabled rows (λ k. getD (now (bytes .entry)) (j + m1 * k) 0) (now (tables .entry)) ⌝ }
+{
+    let mut sum: u64 = 0;
+    for k in 0..rows {
+        let b = bytes[j + m1 * k];
+        sum = sum ^ entries(tables, k, b);
+    }
+    sum
+}
+
+// The entries for b in the tables of coefficient k.
+fn entries(tables: &[u64], k: usize, b: u8) -> u64
+    requires { ⌜ k * 32 + 32 ≤ length (now tables) ⌝ }
+    ensures { λ r. ⌜ r ≡ bitXor (getD (now (tables .entry)) (k * 32 + b % 16) 0) (getD (now (tables .entry)) (k * 32 + (16 + b / 16)) 0) ⌝ }
+{
+    let n = b as usize;
+    let at = k * 32;
+    tables[at + n % 16] ^ tables[at + (16 + n / 16)]
+}
