@@ -7,7 +7,7 @@ use Prim.Native.Nat.{ℕ, suc, _^_, _≤_, _<_}
 use native.Mathlib.Omega.{arith}
 use lib.Dec.{T, eqb, ltb, ltb→lt, eqb→eq}
 use lib.ListN.{length}
-use Rattle.slices.specs.Table.{both}
+use Rattle.slices.specs.Tests.{both}
 use Rattle.poly.specs.Field.{BinaryField}
 use Rattle.poly.specs.Poly.{All, Distinct, eval, IsZero}
 use Rattle.poly.specs.Roots.{Root, all-roots}

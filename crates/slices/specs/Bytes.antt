@@ -9,7 +9,7 @@ use lib.Pow.{areBytes}
 use mir.Syntax.{w8}
 use mir.Val.{Fits}
 use Rattle.slices.specs.Lists.{tab, rows, part}
-use Rattle.slices.specs.Table.{both}
+use Rattle.slices.specs.Tests.{both}
 
 -- every element is below 256
 pub record Bytes (xs : List ℕ) : Type 0 where

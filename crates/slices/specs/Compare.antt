@@ -10,13 +10,7 @@ use lib.ListN.{length, getD, drop, drop-of-length-le}
 use lib.Seq.{drop-cons}
 use borrow.Author.Tests.{eqb-true, eq-eqb, ne-eqb}
 use Rattle.slices.specs.Lists.{same}
-
-pub and-split : (a b : Bool) → (a && b) ≡ true → (a ≡ true) × (b ≡ true)
-and-split true b h = (refl, h)
-and-split false b h = (h, absurd (false≢true h))
-
-pub and-join : (a b : Bool) → a ≡ true → b ≡ true → (a && b) ≡ true
-and-join a b p q = rw (p, q)
+use Rattle.slices.specs.Tests.{and-split, and-join}
 
 pub same-eq : (s t : List ℕ) → same s t ≡ true → s ≡ t
 unfolding same

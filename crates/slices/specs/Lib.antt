@@ -2,7 +2,7 @@
 pub mod Lists
 pub mod Xor
 pub mod Tab
-pub mod Table
+pub mod Tests
 pub mod Bytes
 pub mod Sums
 pub mod Numbers

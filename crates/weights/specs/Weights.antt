@@ -8,7 +8,7 @@ use native.Mathlib.Decide.{ℕ-discrete, decLt}
 use native.Mathlib.Omega.{arith}
 use lib.Dec.{T, ltb, eqb, leb, ltb→lt, leb→le, eqb→eq}
 use lib.ListN.{getD}
-use Rattle.slices.specs.Table.{both}
+use Rattle.slices.specs.Tests.{both}
 use Rattle.poly.specs.Field.{BinaryField}
 use Rattle.poly.specs.Weights.{numerator}
 use Rattle.field.specs.Ring.{mul}

@@ -1,0 +1,164 @@
+// Runs the functions of the wide fields and writes what they answer: products, inverses and lifts of bytes, Lagrange's values at x, and dot
+// products with them.
+use libc::STDOUT_FILENO;
+ghost use mathlib.Core.Path.{_≡_};
+ghost use Prim.Native.Nat.{_<_, _^_};
+ghost use lib.ListN.{length};
+ghost use Rattle.field.specs.Fits.{Fits};
+
+fn wide(x: u8) -> u64 {
+    x as u64
+}
+
+// A word, and a number in hexadecimal.
+fn print(word: &[u8], value: u64) {
+    io::write_all(STDOUT_FILENO, word);
+    io::print_hex(STDOUT_FILENO, value, 1);
+}
+
+fn end_line() {
+    io::write_all(STDOUT_FILENO, b"\n");
+}
+
+fn product32(a: u64, b: u64) {
+    print(b"32 bits: ", a);
+    print(b" * ", b);
+    print(b" = ", field::mul(32, 0x8d, a, b));
+    end_line();
+}
+
+fn product48(a: u64, b: u64) {
+    print(b"48 bits: ", a);
+    print(b" * ", b);
+    print(b" = ", field::mul(48, 0x2d, a, b));
+    end_line();
+}
+
+fn byte(b: u8) {
+    print(b"byte ", wide(b));
+    print(b": inverse ", wide(field::inverse(b)));
+    print(b", lift ", field::lift(b) as u64);
+    end_line();
+}
+
+fn print_all(values: &[u64]) {
+    for k in 0..values.len() {
+        print(b" ", values[k]);
+    }
+    end_line();
+}
+
+fn values32(x: u64)
+    requires { ⌜ x < 2 ^ 32 ⌝ }
+{
+    let mut few = [0u64; 21];
+    lagrange::values32_21(x, &mut few);
+    print(b"32 bits, 21 points, at ", x);
+    print_all(&few);
+    let mut many = [0u64; 41];
+    lagrange::values32_41(x, &mut many);
+    print(b"32 bits, 41 points, at ", x);
+    print_all(&many);
+}
+
+fn values48(x: u64)
+    requires { ⌜ x < 2 ^ 48 ⌝ }
+{
+    let mut few = [0u64; 21];
+    lagrange::values48_21(x, &mut few);
+    print(b"48 bits, 21 points, at ", x);
+    print_all(&few);
+    let mut many = [0u64; 41];
+    lagrange::values48_41(x, &mut many);
+    print(b"48 bits, 41 points, at ", x);
+    print_all(&many);
+}
+
+// The lifts of 1, 2, 4, .. 128.
+fn powers() -> [u64; 8] {
+    [
+        field::lift(1) as u64,
+        field::lift(2) as u64,
+        field::lift(4) as u64,
+        field::lift(8) as u64,
+        field::lift(16) as u64,
+        field::lift(32) as u64,
+        field::lift(64) as u64,
+        field::lift(128) as u64,
+    ]
+}
+
+// Bytes 5, 78, 151, .. modulo 256.
+fn bytes() -> [u8; 200] {
+    let mut s = [0u8; 200];
+    for i in 0..200 {
+        s[i] = ((i * 73 + 5) % 256) as u8;
+    }
+    s
+}
+
+fn print_dots(tables: &[u64], s: &[u8])
+    requires { ⌜ (length (now tables) ≡ 672) × (length (now s) ≡ 200) ⌝ }
+{
+    for j in 0..10 {
+        print(b" ", lagrange::dot_tables(tables, s, 20, 10, j));
+    }
+    end_line();
+}
+
+// For j = 0 to 9, the values at x of the polynomials through the lifts of bytes j, j + 10, .. j + 190 at the points 0 to 19, and 0 at 20: by
+// tables.
+fn dots(x: u64)
+    requires { ⌜ x < 2 ^ 32 ⌝ }
+{
+    let mut coefficients = [0u64; 21];
+    lagrange::values32_21(x, &mut coefficients);
+    let p = powers();
+    let mut tables = [0u64; 672];
+    lagrange::tables(32, 0x8d, &p, &coefficients, &mut tables);
+    let s = bytes();
+    print(b"lifted bytes, at ", x);
+    print_dots(&tables, &s);
+}
+
+fn dot(x: u64)
+    requires { ⌜ x < 2 ^ 32 ⌝ }
+{
+    let mut coefficients = [0u64; 41];
+    lagrange::values32_41(x, &mut coefficients);
+    let mut points = [0u64; 41];
+    lagrange::values32_41(0x89abcdef, &mut points);
+    print(b"41 values, at ", x);
+    print(b" ", lagrange::dot(32, 0x8d, &coefficients, &points));
+    end_line();
+}
+
+fn main() {
+    product32(0x10000, 0x10000);
+    product32(0x80000000, 2);
+    product32(0x12345678, 0x9abcdef0);
+    product32(0xffffffff, 0xffffffff);
+    product32(0, 0xffffffff);
+    product48(0x1000000, 0x1000000);
+    product48(0x800000000000, 2);
+    product48(0x123456789abc, 0xfedcba987654);
+    product48(0xffffffffffff, 0xffffffffffff);
+    byte(0);
+    byte(1);
+    byte(2);
+    byte(0x53);
+    byte(0x80);
+    byte(0xff);
+    values32(0);
+    values32(20);
+    values32(33);
+    values32(40);
+    values32(41);
+    values32(0x12345678);
+    values48(20);
+    values48(0x123456789abc);
+    dots(20);
+    dots(0x12345678);
+    dot(7);
+    dot(0xfedcba98);
+}
