@@ -1,0 +1,2 @@
+-- A published value of the definition, which antt computes.
+mod Vector
