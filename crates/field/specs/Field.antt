@@ -47,9 +47,6 @@ module _ (w : ℕ) (_·_ : ℕ → ℕ → ℕ) where
     pub mod-mul : (a b : ℕ) → (a · b) % 2 ^ w ≡ a · b
     mod-mul a b = mod-eq-of-lt (lt a b)
 
-    pub one-r : (a : ℕ) → a · 1 ≡ a % 2 ^ w
-    one-r a = comm a 1 ∙ one a
-
     pub adds-l : (a : ℕ) → Additive (λ b. b · a)
     adds-l a = record { adds = λ b c. comm (bitXor b c) a ∙ R .adds a .adds b c ∙ ap₂ bitXor (comm a b) (comm a c) }
 

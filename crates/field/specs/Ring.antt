@@ -2,12 +2,10 @@
 -- The product takes any two numbers, and looks at their w low bits only. Assumes nothing.
 use mathlib.Core.Path.{_≡_, refl, sym, ap, ap₂, _∙_, subst}
 use Prim.Native.Nat.{ℕ, zero, suc, _+_, _-_, _*_, _/_, _%_, _^_, _<_}
-use native.Mathlib.Nat.{mod-lt, mod-mod, mod-eq-of-lt, add-zero, add-comm, mul-div-cancel, mul-mod-left, zero-lt-suc, suc-pred-eq-of-pos}
-use native.Mathlib.Numerals.{sub-one}
+use native.Mathlib.Nat.{mod-lt, mod-mod, mod-eq-of-lt, add-zero, add-comm, mul-div-cancel, mul-mod-left, zero-lt-suc}
 use lib.Dec.{T, ltb, ltb→lt}
 use lib.Pow.{pow-pos, mod-pow-add, mod-mod-pow, field}
-use lib.Bits.{bitXor, xor-comm, xor-lt, xor-zero-r}
-use Rattle.slices.specs.Xor.{xor-assoc}
+use lib.Bits.{bitXor, xor-lt}
 use Rattle.field.specs.Linear.{pick, combine, orbit, basis, Additive, compose, sum, shl, shr, low-bits, picked, combined, combine-map, combine-basis, orbit-additive, orbit-map, cyclic}
 
 -- X times a: the bit that leaves comes back as low. (`bitXor` computes by its first operand's digits, so the short one stands first.)

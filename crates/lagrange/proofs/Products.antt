@@ -1,19 +1,18 @@
 -- The numerator of Lagrange's polynomial k is the product of the factors before k and of those after it. Assumes nothing.
-use mathlib.Core.Path.{_≡_, refl, sym, ap, ap₂, _∙_, subst}
-use mathlib.Core.Logic.{_≢_}
+use mathlib.Core.Path.{_≡_, refl, sym, ap, ap₂, _∙_}
 use mathlib.Core.List.{List}
-use Prim.Native.Nat.{ℕ, zero, suc, _+_, _-_, _*_, _^_, _≤_, _<_}
+use Prim.Native.Nat.{ℕ, zero, suc, _+_, _-_, _^_, _≤_, _<_}
 use native.Mathlib.Nat.{add-zero, add-suc}
 use native.Mathlib.Omega.{arith}
-use native.Mathlib.Decide.{ℕ-discrete, decLt}
+use native.Mathlib.Decide.{ℕ-discrete}
 use lib.Bits.{bitXor, xor-lt}
-use lib.ListN.{length, getD, set, length-set}
+use lib.ListN.{length, getD, set}
 use lib.Seq.{ext-getD, getD-set-same, getD-set-other}
 use Rattle.slices.specs.Lists.{tab}
 use Rattle.slices.specs.Tab.{length-tab, getD-tab}
 use Rattle.field.specs.Ring.{mul}
 use Rattle.poly.specs.Index.{at-same, at-other}
-use Rattle.poly.specs.Field.{Ops, BinaryField, mul-assoc, mul-comm}
+use Rattle.poly.specs.Field.{BinaryField, mul-assoc, mul-comm}
 use Rattle.poly.specs.Lagrange.{numbers}
 use Rattle.poly.specs.Weights.{numerator, basis-by-weight}
 use Rattle.field.specs.Wide.{ops, Element}

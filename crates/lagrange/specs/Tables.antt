@@ -6,12 +6,12 @@ use mathlib.Core.List.{List, [], _∷_, _++_, map}
 use Prim.Native.Nat.{ℕ, zero, suc, _+_, _*_, _/_, _%_, _^_, _≤_, _<_}
 use native.Mathlib.Omega.{arith}
 use lib.Bits.{bitXor}
-use lib.ListN.{length, getD, take, drop, length-append, length-take, length-drop, take-append-drop, List·getD-append}
+use lib.ListN.{length, getD, take, drop, length-take, take-append-drop, List·getD-append}
 use lib.Seq.{getD-append-add}
 use Rattle.slices.specs.Lists.{tab, rows}
-use Rattle.slices.specs.Tab.{getD-tab, length-tab, getD-rows}
+use Rattle.slices.specs.Tab.{getD-tab, getD-rows}
 use Rattle.poly.specs.Sum.{sum}
-use Rattle.field.specs.Linear.{Additive, combine, combine-map, combine-append, combine-low}
+use Rattle.field.specs.Linear.{combine, combine-map, combine-append, combine-low}
 use Rattle.field.specs.Ring.{mul, IsRing}
 use Rattle.lagrange.specs.Values.{dotProduct}
 

@@ -9,7 +9,7 @@ use Rattle.poly.specs.Index.{at, at-same, at-other}
 use Rattle.poly.specs.Field.{BinaryField, zero-mul, mul-comm}
 use Rattle.poly.specs.Sum.{sum, sum-cong, sum-only}
 use Rattle.poly.specs.Poly.{eval, elem-eval}
-use Rattle.poly.specs.Lagrange.{Points, numbers, basisPoly, interpolate, basis, lagrange, elem-basis, eval-basis, eval-interpolate}
+use Rattle.poly.specs.Lagrange.{numbers, basisPoly, interpolate, basis, lagrange, elem-basis, eval-basis, eval-interpolate}
 use Rattle.field.specs.Ring.{mul}
 use Rattle.field.specs.Wide.{ops, Element}
 

@@ -4,8 +4,8 @@ use mathlib.Core.List.{List, _++_, append-nil}
 use Prim.Native.Nat.{ℕ, suc, _+_, _<_, _≤_}
 use native.Mathlib.Numerals.{add-one}
 use native.Mathlib.Omega.{arith}
-use lib.ListN.{length, take, drop, getD, set, length-set}
-use lib.Seq.{drop-cons, drop-length, set-at, getD-at, take-at}
+use lib.ListN.{length, drop, getD, set, length-set}
+use lib.Seq.{drop-cons, drop-length, set-at, getD-at}
 use Rattle.slices.specs.Lists.{tab}
 use Rattle.slices.specs.Tab.{length-tab, tab-snoc}
 
@@ -55,8 +55,3 @@ filling-at {f} {m} {d} w h = filled-at f d (w .is) (rw (w .size) h)
 
 pub filling-all : {f : ℕ → ℕ} {m : ℕ} {d l : List ℕ} {i : ℕ} → Filling f m d i l → m ≤ i → l ≡ tab f m
 filling-all {f} {m} {d} w h = filled-all f d (w .is) (omega (arith, w .size)) ∙ ap (tab f) (w .size)
-
--- what is replaced
-pub filling-take : {f : ℕ → ℕ} {m : ℕ} {d l : List ℕ} {i : ℕ} → Filling f m d i l → take i l ≡ tab f i
-unfolding filled
-filling-take {f} {m} {d} {l} {i} w = rw (w .is) (take-at (tab f i) (drop i d) i (length-tab f i))

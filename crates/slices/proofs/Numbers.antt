@@ -1,10 +1,10 @@
 -- Loops over the bytes of a number, low byte first: from the highest down, and from the lowest up. Assumes nothing.
-use mathlib.Core.Path.{_≡_, refl, ap, _∙_}
-use mathlib.Core.List.{List, [], _∷_, _++_}
+use mathlib.Core.Path.{_≡_, ap, _∙_}
+use mathlib.Core.List.{List}
 use Prim.Native.Nat.{ℕ, suc, _+_, _-_, _*_, _/_, _%_, _^_, _<_, _≤_}
 use native.Mathlib.Numerals.{add-one}
 use native.Mathlib.Omega.{arith}
-use lib.ListN.{length, getD, set, take, drop, length-take}
+use lib.ListN.{length, getD, set, drop, length-take}
 use lib.Seq.{drop-cons}
 use Rattle.slices.specs.Lists.{part, put}
 use Rattle.slices.specs.Bytes.{Bytes, part-bytes}

@@ -2,14 +2,12 @@
 use mathlib.Core.Path.{_≡_, refl, sym, ap, ap₂, _∙_}
 use mathlib.Core.List.{List, [], _∷_, _++_}
 use Prim.Native.Nat.{ℕ, zero, suc, _+_, _*_, _/_, _%_, _^_, _<_, _≤_}
-use native.Mathlib.Nat.{mul-assoc, mod-lt, zero-lt-suc, not-suc-le-zero, le-of-suc-le-suc, mod-eq-of-lt, mod-one}
+use native.Mathlib.Nat.{mod-lt, zero-lt-suc, not-suc-le-zero, le-of-suc-le-suc, mod-one}
 use native.Mathlib.Omega.{arith}
-use lib.Bits.{bitXor, xor-comm, xor-shifted}
 use lib.ListN.{length, getD}
 use lib.Pow.{pow-pos, pow-add, shr-shr, mod-pow-add}
 use Rattle.slices.specs.Lists.{rows, row}
 use Rattle.slices.specs.Bytes.{Bytes, nil-bytes, cons-bytes, tail-bytes}
-use Rattle.slices.specs.Xor.{xor-assoc}
 
 unfoldable pub number : List ℕ → ℕ
 number [] = 0
@@ -63,32 +61,11 @@ bytesOf-snoc (suc n) x =
 
 -- ---- the number of a list
 
-pub number-snoc : (s : List ℕ) (b : ℕ) → number (s ++ (b ∷ [])) ≡ number s + b * 2 ^ (8 * length s)
-unfolding number
-number-snoc [] b = omega arith
-number-snoc (x ∷ s) b =
-    omega (arith, number-snoc s b, ap (b *_) (pow-eight (length s)), sym (mul-assoc b 256 (2 ^ (8 * length s))), mul-left b (2 ^ (8 * length s)))
-  where
-    mul-left : (b p : ℕ) → b * 256 * p ≡ 256 * (b * p)
-    mul-left b p = ap (_* p) (comm b) ∙ mul-assoc 256 b p
-      where
-        comm : (b : ℕ) → b * 256 ≡ 256 * b
-        comm b = omega arith
-
 pub number-lt : (s : List ℕ) (w : ℕ) → Bytes s → length s ≤ w → number s < 2 ^ (8 * w)
 unfolding number
 number-lt [] w p l = pow-pos (8 * w)
 number-lt (b ∷ s) zero p l = absurd (omega arith)
 number-lt (b ∷ s) (suc w) p l = omega (arith, number-lt s w (tail-bytes p) (omega arith), p .lt 0, pow-eight w)
-
--- what is added above a number's bytes is one byte more
-pub xor-snoc : (a : ℕ) (s : List ℕ) (b : ℕ) → Bytes s → bitXor (bitXor a (number s)) (b * 2 ^ (8 * length s)) ≡ bitXor a (number (s ++ (b ∷ [])))
-xor-snoc a s b p =
-    xor-assoc a (number s) (b * 2 ^ (8 * length s))
-    ∙ ap (bitXor a) (xor-comm (number s) (b * 2 ^ (8 * length s)) ∙ xor-shifted b (8 * length s) (number s) (number-lt s (length s) p (omega arith)) ∙ sum)
-  where
-    sum : b * 2 ^ (8 * length s) + number s ≡ number (s ++ (b ∷ []))
-    sum = omega (arith, number-snoc s b)
 
 -- ---- there and back
 

@@ -1,5 +1,4 @@
 -- `field::top` meets its contract: nothing is shifted out. Assumes nothing.
-use mathlib.Core.Path.{_∙_}
 use native.Mathlib.Omega.{arith}
 use lib.Dec.{lit<}
 use lib.Pow.{shl-exact}
