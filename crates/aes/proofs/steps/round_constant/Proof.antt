@@ -1,0 +1,13 @@
+-- `aes::steps::round_constant` reads the table of the round constants. Assumes nothing.
+use mathlib.Core.Path.{refl}
+use borrow.Author.Needs.{needs}
+use Rattle.aes.specs.Aes.{round-constants}
+use Rattle.aes.proofs.steps.round_constant.Statement.{statement}
+use Rattle.aes.proofs.steps.round_constant.Tie as tie
+
+returns : tie.Need-returns
+unfolding round-constants
+returns c = refl
+
+pub round-constant-spec : {M : Type 1} → statement M
+round-constant-spec = tie.close (tie.spec (λ c. search needs) returns)

@@ -1,0 +1,76 @@
+#!/usr/bin/env python3
+"""What crates/vectors_aes writes on crates/vectors_aes/stdin: python3 vectors/aes.py > crates/vectors_aes/stdout
+
+The ciphertexts are the package `cryptography`'s. The S-boxes' inputs are worked out here, by the standard's own steps on words and bytes, and the
+ciphertext that these give is compared with the package's.
+"""
+import os
+
+from cryptography.hazmat.primitives.ciphers import Cipher, algorithms, modes
+
+
+def times(a, b):
+    r = 0
+    for i in range(8):
+        if b >> i & 1:
+            r ^= a
+        a = a << 1 ^ (0x11b if a & 0x80 else 0)
+    return r
+
+
+def substitute(x):
+    """5.1.1: the inverse, found by trial, and then (5.1)."""
+    b = next((y for y in range(256) if times(x, y) == 1), 0)
+    bits = [sum(b >> (i + k) % 8 & 1 for k in (0, 4, 5, 6, 7)) + (0x63 >> i & 1) for i in range(8)]
+    return sum(bit % 2 << i for i, bit in enumerate(bits))
+
+
+SBOX = [substitute(x) for x in range(256)]
+
+
+def add(a, b):
+    return [x ^ y for x, y in zip(a, b)]
+
+
+def encrypt(key, plaintext):
+    """The ciphertext, and what each S-box is given: the key schedule's by word, the rounds' by state."""
+    words, scheduled, entered = [list(key[4 * i:4 * i + 4]) for i in range(4)], [], []
+    rcon = 1
+    for i in range(4, 44):
+        temp = words[i - 1]
+        if i % 4 == 0:
+            temp = temp[1:] + temp[:1]
+            scheduled.append(temp)
+            temp = add([SBOX[x] for x in temp], [rcon, 0, 0, 0])
+            rcon = times(rcon, 2)
+        words.append(add(words[i - 4], temp))
+    keys = [sum(words[4 * n:4 * n + 4], []) for n in range(11)]
+    state = add(plaintext, keys[0])
+    for n in range(1, 11):
+        entered.append(state)
+        s = [SBOX[x] for x in state]
+        s = [s[(i + 4 * (i % 4)) % 16] for i in range(16)]
+        if n < 10:
+            rows = [[s[i - i % 4 + (i + k) % 4] for k in range(4)] for i in range(16)]
+            s = [times(2, a) ^ times(3, b) ^ c ^ d for a, b, c, d in rows]
+        state = add(s, keys[n])
+    return state, scheduled, entered
+
+
+def hexed(s):
+    return bytes(s).hex()
+
+
+here = os.path.dirname(os.path.abspath(__file__))
+with open(os.path.join(here, '../crates/vectors_aes/stdin')) as lines:
+    pairs = [[bytes.fromhex(word) for word in line.split()] for line in lines]
+for key, plaintext in pairs:
+    encryptor = Cipher(algorithms.AES(key), modes.ECB()).encryptor()
+    ciphertext = encryptor.update(plaintext) + encryptor.finalize()
+    output, scheduled, entered = encrypt(key, plaintext)
+    assert bytes(output) == ciphertext
+    given = sum(scheduled + entered, [])
+    print(hexed(key), hexed(plaintext), hexed(ciphertext), given.index(0) if 0 in given else 200)
+output, scheduled, entered = encrypt(*pairs[0])
+for word, state in zip(scheduled, entered):
+    print(hexed(word), hexed(state))
