@@ -1,33 +1,19 @@
 -- How the program works AES's steps out, and why that is right. Assumes nothing.
 use mathlib.Core.Path.{_≡_, refl, sym, ap, ap₂, _∙_, subst}
-use mathlib.Core.List.{List, [], _∷_, map}
+use mathlib.Core.List.{List, [], _∷_}
 use Prim.Native.Nat.{ℕ, _+_, _-_, _*_, _/_, _%_, _^_, _<_, _≤_}
 use native.Mathlib.Nat.{mod-eq-of-lt}
 use native.Mathlib.Omega.{arith}
 use lib.Bits.{bitXor, xor-comm, xor-zero-r}
-use lib.ListN.{getD, length, drop, length-drop}
-use lib.Seq.{length-take-le}
-use Rattle.slices.specs.Lists.{tab, part}
-use Rattle.slices.specs.Tab.{tab-list, tab-part}
+use lib.ListN.{getD}
+use Rattle.slices.specs.Lists.{tab}
 use Rattle.slices.specs.Bytes.{Bytes}
 use Rattle.slices.specs.Xor.{xor-assoc}
 use Rattle.field.specs.Linear.{pick, combine, orbit, basis, Additive, agree, combined, compose, sum, shl, shr, low-bits, identity}
 use Rattle.field.specs.Ring.{times, xtime}
 use Rattle.field.specs.Field.{adds-l}
-use Rattle.field.specs.Byte.{mul8, field8, low8}
+use Rattle.field.specs.Byte.{mul8, field8, low8, times-one}
 use Rattle.aes.specs.Aes.{cell, state, add, columns, matrix, mixed, mix-columns}
-
--- ---- parts and maps
-
--- k elements from index a on
-pub part-is-tab : (k a : ℕ) (s : List ℕ) → a + k ≤ length s → part a k s ≡ tab (λ i. getD s (a + i) 0) k
-part-is-tab k a s h =
-    let long : length (part a k s) ≡ k = length-take-le k (drop a s) (omega (arith, length-drop a s)) in
-    sym (tab-list (part a k s)) ∙ ap (tab (λ i. getD (part a k s) i 0)) long ∙ tab-part k a k s (omega arith)
-
-pub tab-map : (f : ℕ → ℕ) (s : List ℕ) → tab (λ i. f (getD s i 0)) (length s) ≡ map f s
-tab-map f [] = refl
-tab-map f (x ∷ s) = ap (f x ∷_) (tab-map f s)
 
 -- ---- 5.1.1: the matrix times b is b plus b rotated by 1 to 4 bits
 
@@ -61,9 +47,6 @@ pub double-high : (a : ℕ) → a < 256 → 128 ≤ a → bitXor (a * 2 % 2 ^ 8)
 double-high a h l = xor-comm (a * 2 % 2 ^ 8) low8 ∙ double-by-bit a 1 h (omega arith)
 
 -- ---- 5.1.3: 02 a + 03 b + c + d = 02 (a + b) + b + (c + d), for all bytes of a block at a time
-
-pub times-one : {x : ℕ} → x < 256 → mul8 1 x ≡ x
-times-one {x} h = field8 .ring .one x ∙ mod-eq-of-lt h
 
 mixed-by-double : (a b c d : ℕ) → b < 256 → bitXor (bitXor (mul8 2 (bitXor a b)) b) (bitXor c d) ≡ mixed a b c d
 mixed-by-double a b c d h =

@@ -31,7 +31,7 @@ use Rattle.aes.specs.Aes.{
   sbox-inputs,
 }
 use Rattle.aes.specs.Sizes.{length-entering, rcon-bytes}
-use Rattle.aes.specs.Steps.{times-one}
+use Rattle.field.specs.Byte.{times-one}
 use Rattle.circuit.specs.Circuit.{
   share,
   public,

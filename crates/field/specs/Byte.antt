@@ -1,8 +1,9 @@
 -- "A byte is an element of the AES field" (FIPS 197, section 4): bytes modulo X^8 + X^4 + X^3 + X + 1. What the theory asks of it is
 -- computed here. Assumes nothing.
-use mathlib.Core.Path.{_≡_, refl}
+use mathlib.Core.Path.{_≡_, refl, _∙_}
 use mathlib.Core.List.{List, [], _∷_}
-use Prim.Native.Nat.{ℕ}
+use Prim.Native.Nat.{ℕ, _<_}
+use native.Mathlib.Nat.{mod-eq-of-lt}
 use Rattle.field.specs.Linear.{combine, orbit, basis}
 use Rattle.field.specs.Ring.{xtime, times, mul}
 use Rattle.field.specs.Field.{iterate, ones-power, inverse, IsField, mul-field}
@@ -26,6 +27,9 @@ unfolding xtime times combine orbit basis iterate ones-power inverse table8
 field8 =
     mul-field 8 low8 table8 tt refl refl
     (record { positive = refl; powers = refl; frobenius = refl; idempotents = refl; zero-zero = refl })
+
+pub times-one : {x : ℕ} → x < 256 → mul8 1 x ≡ x
+times-one {x} h = field8 .ring .one x ∙ mod-eq-of-lt h
 
 -- FIPS 197, 4.2: {57} times {83} is {c1}
 fips-197 : mul8 0x57 0x83 ≡ 0xc1

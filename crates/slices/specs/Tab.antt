@@ -6,8 +6,8 @@ use native.Mathlib.Nat.{le-of-suc-le-suc, not-suc-le-zero, suc-mul, zero-mul}
 use native.Mathlib.Decide.{ℕ-discrete}
 use native.Mathlib.Omega.{arith}
 use lib.Arith.{digits-lt}
-use lib.ListN.{length, getD, take, drop, replicate, length-append, List·getD-append}
-use lib.Seq.{getD-append-add, getD-take, getD-drop}
+use lib.ListN.{length, getD, take, drop, replicate, length-append, length-drop, List·getD-append}
+use lib.Seq.{getD-append-add, getD-take, getD-drop, length-take-le}
 use Rattle.slices.specs.Lists.{tab, rows, part}
 
 -- ---- tab
@@ -48,9 +48,12 @@ take-tab f zero m h = refl
 take-tab f (suc n) zero h = absurd (not-suc-le-zero h)
 take-tab f (suc n) (suc m) h = ap (f 0 ∷_) (take-tab (λ k. f (suc k)) n m (le-of-suc-le-suc h))
 
--- the first k elements of a part
-pub tab-part : (k a m : ℕ) (s : List ℕ) → k ≤ m → tab (λ i. getD (part a m s) i 0) k ≡ tab (λ i. getD s (a + i) 0) k
-tab-part k a m s h = tab-cong k (λ i l. getD-take m (drop a s) i 0 (omega arith) ∙ getD-drop a s i 0)
+-- a part by its elements
+pub part-tab : (k a : ℕ) (s : List ℕ) → a + k ≤ length s → part a k s ≡ tab (λ i. getD s (a + i) 0) k
+part-tab k a s h =
+    let long : length (part a k s) ≡ k = length-take-le k (drop a s) (omega (arith, length-drop a s)) in
+    sym (tab-list (part a k s)) ∙ ap (tab (λ i. getD (part a k s) i 0)) long
+    ∙ tab-cong k (λ i l. getD-take k (drop a s) i 0 l ∙ getD-drop a s i 0)
 
 -- ---- rows
 

@@ -9,7 +9,7 @@ use borrow.Author.Needs.{needs}
 use Rattle.slices.specs.Lists.{tab}
 use Rattle.aes.specs.Aes.{add, block, sbox, sub-bytes, shift-rows, mix-columns, entering, cipher}
 use Rattle.aes.specs.Sizes.{length-entering}
-use Rattle.aes.specs.Steps.{tab-map}
+use Rattle.slices.specs.Tab.{tab-map}
 use Rattle.aes.proofs.Loops.{Running, running-none, running-more, running-last, running-inputs}
 use Rattle.aes.proofs.encrypt_rounds.Statement.{statement}
 use Rattle.aes.proofs.encrypt_rounds.Tie as tie

@@ -6,7 +6,7 @@ use lib.ListN.{length, getD}
 use borrow.Author.Needs.{needs}
 use Rattle.slices.proofs.Fill.{Filling, filling-none, filling-more, filling-at, filling-all}
 use Rattle.field.specs.Byte.{inverse8}
-use Rattle.aes.specs.Steps.{tab-map}
+use Rattle.slices.specs.Tab.{tab-map}
 use Rattle.aes.proofs.invert.Statement.{statement}
 use Rattle.aes.proofs.invert.Tie as tie
 

@@ -4,7 +4,7 @@ use Prim.Native.Nat.{ℕ}
 use native.Mathlib.Omega.{arith}
 use Rattle.field.specs.Field.{zero-l}
 use Rattle.field.specs.Byte.{mul8, field8}
-use Rattle.aes.specs.Steps.{times-one}
+use Rattle.field.specs.Byte.{times-one}
 use Rattle.circuit.proofs.public_byte.Statement.{statement}
 use Rattle.circuit.proofs.public_byte.Tie as tie
 

@@ -5,7 +5,7 @@ use Prim.Native.Nat.{ℕ}
 use lib.Bits.{bitXor}
 use borrow.Author.Needs.{needs}
 use Rattle.aes.specs.Aes.{matrix}
-use Rattle.aes.specs.Steps.{tab-map}
+use Rattle.slices.specs.Tab.{tab-map}
 use Rattle.circuit.specs.Circuit.{affine, sbox-outputs}
 use Rattle.circuit.proofs.sbox_outputs.Statement.{statement}
 use Rattle.circuit.proofs.sbox_outputs.Tie as tie

@@ -7,7 +7,7 @@ use lib.ListN.{length, getD}
 use borrow.Author.Needs.{needs}
 use Rattle.slices.proofs.Fill.{Filling, filling-none, filling-more, filling-at, filling-all}
 use Rattle.aes.specs.Aes.{matrix}
-use Rattle.aes.specs.Steps.{tab-map}
+use Rattle.slices.specs.Tab.{tab-map}
 use Rattle.aes.proofs.steps.affine.Statement.{statement}
 use Rattle.aes.proofs.steps.affine.Tie as tie
 

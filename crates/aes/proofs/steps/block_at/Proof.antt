@@ -4,7 +4,7 @@ use Prim.Native.Nat.{ℕ, _+_, _-_, _*_}
 use native.Mathlib.Omega.{arith}
 use lib.ListN.{take, drop}
 use borrow.Author.Needs.{needs}
-use Rattle.aes.specs.Steps.{part-is-tab}
+use Rattle.slices.specs.Tab.{part-tab}
 use Rattle.aes.proofs.steps.block_at.Statement.{statement}
 use Rattle.aes.proofs.steps.block_at.Tie as tie
 
@@ -13,7 +13,7 @@ returns c =
     let args = c .before .before .before .before .before .args in
     let at = args .n * 16 in
     let e : at + 16 - at ≡ 16 = omega arith in
-    c .before .copy .ensures ∙ ap (λ (k : ℕ). take k (drop at (args .s .now))) e ∙ part-is-tab 16 at (args .s .now) (omega arith)
+    c .before .copy .ensures ∙ ap (λ (k : ℕ). take k (drop at (args .s .now))) e ∙ part-tab 16 at (args .s .now) (omega arith)
 
 pub block-at-spec : {M : Type 1} → statement M
 block-at-spec =
