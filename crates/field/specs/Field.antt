@@ -9,7 +9,22 @@ use lib.Pow.{pow-pos, pow-lt}
 use lib.Dec.{T, ltb}
 use lib.Bits.{bitXor, xor-self}
 use Rattle.slices.specs.Xor.{by-digit, digit, xor-assoc, xor-cancel}
-use Rattle.field.specs.Linear.{combine, orbit, basis, Additive, additive-zero, identity, compose, sum, shl, shr, combined, combine-basis, cyclic, agree}
+use Rattle.field.specs.Linear.{
+  combine,
+  orbit,
+  basis,
+  Additive,
+  additive-zero,
+  identity,
+  compose,
+  sum,
+  shl,
+  shr,
+  combined,
+  combine-basis,
+  cyclic,
+  agree,
+}
 use Rattle.field.specs.Ring.{xtime, mul, IsRing, times-ring, xtime-step}
 
 -- f (f (.. a)), n times

@@ -61,7 +61,8 @@ module _ (w low : ℕ) (p : List ℕ) where
         root = r .0 .1;
         least = λ z h e.
             all-roots F p (length (y ∷ rs)) (tested below (λ x t. ltb→lt x (2 ^ w) t) p coefficients) (omega arith) nonzero (y ∷ rs)
-            (distinct (y ∷ rs) order) r refl (λ z. y ≤ z) (omega arith, tested (ltb y) (λ x t. lt-le (ltb→lt y x t)) rs (both (all (ltb y) rs) (ascending rs) order .0))
+            (distinct (y ∷ rs) order) r refl (λ z. y ≤ z)
+            (omega arith, tested (ltb y) (λ x t. lt-le (ltb→lt y x t)) rs (both (all (ltb y) rs) (ascending rs) order .0))
             z (h, e);
       }
     where

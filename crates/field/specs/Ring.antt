@@ -6,7 +6,25 @@ use native.Mathlib.Nat.{mod-lt, mod-mod, mod-eq-of-lt, add-zero, add-comm, mul-d
 use lib.Dec.{T, ltb, ltb→lt}
 use lib.Pow.{pow-pos, mod-pow-add, mod-mod-pow, field}
 use lib.Bits.{bitXor, xor-lt}
-use Rattle.field.specs.Linear.{pick, combine, orbit, basis, Additive, compose, sum, shl, shr, low-bits, picked, combined, combine-map, combine-basis, orbit-additive, orbit-map, cyclic}
+use Rattle.field.specs.Linear.{
+  pick,
+  combine,
+  orbit,
+  basis,
+  Additive,
+  compose,
+  sum,
+  shl,
+  shr,
+  low-bits,
+  picked,
+  combined,
+  combine-map,
+  combine-basis,
+  orbit-additive,
+  orbit-map,
+  cyclic,
+}
 
 -- X times a: the bit that leaves comes back as low. (`bitXor` computes by its first operand's digits, so the short one stands first.)
 unfoldable pub xtime : ℕ → ℕ → ℕ → ℕ

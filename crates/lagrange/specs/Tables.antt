@@ -40,8 +40,10 @@ halves-sum : (p : List ℕ) (b : ℕ) → length p ≡ 8 → b < 256
 unfolding halves
 halves-sum p b size h =
     ap₂ bitXor
-    (List·getD-append (tab (combine (take 4 p)) 16) (tab (combine (drop 4 p)) 16) 0 (b % 16) (omega arith) ∙ getD-tab (combine (take 4 p)) 16 (b % 16) 0 (omega arith) ∙ low)
-    (getD-append-add (tab (combine (take 4 p)) 16) (tab (combine (drop 4 p)) 16) (b / 16) 0 ∙ getD-tab (combine (drop 4 p)) 16 (b / 16) 0 (omega arith))
+    (List·getD-append (tab (combine (take 4 p)) 16) (tab (combine (drop 4 p)) 16) 0 (b % 16) (omega arith)
+    ∙ getD-tab (combine (take 4 p)) 16 (b % 16) 0 (omega arith) ∙ low)
+    (getD-append-add (tab (combine (take 4 p)) 16) (tab (combine (drop 4 p)) 16) (b / 16) 0
+    ∙ getD-tab (combine (drop 4 p)) 16 (b / 16) 0 (omega arith))
     ∙ ap (λ n. bitXor (combine (take 4 p) b) (combine (drop 4 p) (b / 2 ^ n))) (sym four)
     ∙ sym (combine-append (take 4 p) (drop 4 p) b) ∙ ap (λ q. combine q b) (take-append-drop 4 p)
   where
@@ -51,7 +53,8 @@ halves-sum p b size h =
     low : combine (take 4 p) (b % 16) ≡ combine (take 4 p) b
     low = ap (λ n. combine (take 4 p) (b % 2 ^ n)) (sym four) ∙ combine-low (take 4 p) b
 
-module _ (w low : ℕ) (R : IsRing w (mul w low)) (powers : List ℕ) (eight : length powers ≡ 8) (c : ℕ → ℕ) (f : ℕ → ℕ) (bytes : (k : ℕ) → f k < 256) where
+module _ (w low : ℕ) (R : IsRing w (mul w low)) (powers : List ℕ) (eight : length powers ≡ 8) (c f : ℕ → ℕ)
+    (bytes : (k : ℕ) → f k < 256) where
   length-map : (g : ℕ → ℕ) (xs : List ℕ) → length (map g xs) ≡ length xs
   length-map g [] = refl
   length-map g (x ∷ xs) = ap suc (length-map g xs)

@@ -24,7 +24,7 @@ use Rattle.poly.specs.Lagrange.{
   eval-interpolate,
 }
 
--- "The polynomial of degree at most n - 1 with p(p_k) = v k for k below n."
+-- p is a polynomial of degree at most n - 1 with p(p_k) = v k for k below n.
 pub record Interpolates {A : Type 0} (O : Ops A) (Elem : A → Type 0) (pt : ℕ → A) (n : ℕ) (v : ℕ → A) (p : List A) : Type 0 where
   pub size : length p ≡ n
   pub elem : All Elem p

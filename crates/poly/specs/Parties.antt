@@ -10,19 +10,8 @@ use Rattle.poly.specs.Field.{Ops, BinaryField}
 use Rattle.poly.specs.Sum.{sum, sum-cong, sum-mul, sum-at, sum-choose, sum-each, elem-sum}
 use Rattle.poly.specs.Lagrange.{Points, lagrange}
 use Rattle.poly.specs.Interpolation.{lagrange-sum, lagrange-cong}
-use Rattle.poly.specs.Balance.{
-  AllOne,
-  OneChallenge,
-  FewRoots,
-  valuesS,
-  valuesT,
-  valuesP,
-  checkPoly,
-  products,
-  Values,
-  values,
-  product-check,
-}
+use Rattle.poly.specs.Balance.{AllOne, OneChallenge, FewRoots, valuesS, valuesT, valuesP, checkPoly, products, Values}
+use Rattle.poly.specs.ProductCheck.{values, product-check}
 
 -- The sum of all parties' shares.
 abbrev pub total : {A : Type 0} → Ops A → ℕ → (ℕ → ℕ → A) → ℕ → A
@@ -32,8 +21,8 @@ abbrev pub totals : {A : Type 0} → Ops A → ℕ → (ℕ → ℕ → ℕ → 
 totals O n X j k = sum O n (λ i. X i j k)
 
 -- The check polynomial of an execution, from all parties' shares (see below).
-abbrev pub checkOf : {A : Type 0} → Ops A → (ℕ → A) → ℕ → ℕ → ℕ → (ℕ → A) → (ℕ → ℕ → ℕ → A) → (ℕ → ℕ → ℕ → A) → (ℕ → ℕ → A) → (ℕ → ℕ → A)
-    → (ℕ → ℕ → A) → List A
+abbrev pub checkOf : {A : Type 0} → Ops A → (ℕ → A) → ℕ → ℕ → ℕ → (ℕ → A) → (ℕ → ℕ → ℕ → A) → (ℕ → ℕ → ℕ → A)
+    → (ℕ → ℕ → A) → (ℕ → ℕ → A) → (ℕ → ℕ → A) → List A
 checkOf O pt n m1 m2 r X Y s t v =
     checkPoly O m1 m2 pt (valuesS O m1 m2 r (totals O n X) (total O n s)) (valuesT O m1 m2 (totals O n Y) (total O n t))
     (valuesP O m1 m2 (sum O m1 r) (total O n v))

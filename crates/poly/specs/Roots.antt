@@ -26,8 +26,10 @@ all-tab P (suc n) f h = (h 0 (omega arith), all-tab P n (λ k. f (suc k)) (λ k 
 
 pub distinct-tab : {A : Type 0} (n : ℕ) (f : ℕ → A) → ((i j : ℕ) → i < j → j < n → f i ≢ f j) → Distinct (tab f n)
 distinct-tab zero f h = tt
-distinct-tab (suc n) f h =
-    (all-tab (λ y. y ≢ f 0) n (λ k. f (suc k)) (λ k l e. h 0 (suc k) (omega arith) (omega arith) (sym e)), distinct-tab n (λ k. f (suc k)) (λ i j l m. h (suc i) (suc j) (omega arith) (omega arith)))
+distinct-tab (suc n) f h = (
+  all-tab (λ y. y ≢ f 0) n (λ k. f (suc k)) (λ k l e. h 0 (suc k) (omega arith) (omega arith) (sym e)),
+  distinct-tab n (λ k. f (suc k)) (λ i j l m. h (suc i) (suc j) (omega arith) (omega arith)),
+)
 
 -- ---- roots
 

@@ -67,7 +67,8 @@ pub wrote-none : (d : List ℕ) → Wrote d [] 0 d
 wrote-none d = record { is = front-none d; size = refl; long = refl }
 
 -- the next field
-pub wrote-more : (s : List ℕ) {d p l r : List ℕ} {n m : ℕ} → Wrote d p n l → length s ≡ m → r ≡ put l n s → length r ≡ length l → Wrote d (p ++ s) (n + m) r
+pub wrote-more : (s : List ℕ) {d p l r : List ℕ} {n m : ℕ} → Wrote d p n l → length s ≡ m → r ≡ put l n s → length r ≡ length l
+    → Wrote d (p ++ s) (n + m) r
 wrote-more s {d} {p} {l} {r} {n} {m} w h e k =
     record { is = front-more p d s (w .is) (sym (w .size)) e; size = simp (length-append, w .size, h); long = k ∙ w .long }
 

@@ -1,4 +1,4 @@
--- "Numbers take .. bytes, low byte first": the number that a list of bytes holds, and the bytes of a number. Assumes nothing.
+-- Numbers of some bytes, "low byte first": the number that a list of bytes holds, and the bytes of a number. Assumes nothing.
 use mathlib.Core.Path.{_≡_, refl, sym, ap, ap₂, _∙_}
 use mathlib.Core.List.{List, [], _∷_, _++_}
 use Prim.Native.Nat.{ℕ, zero, suc, _+_, _*_, _/_, _%_, _^_, _<_, _≤_}

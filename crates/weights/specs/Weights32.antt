@@ -19,7 +19,7 @@ unfolding xtime times combine orbit at numerator small right all weights32x21
 weights32x21-0 = passed 32 low32 21 weights32x21 21 0 tt
 
 pub weights32x21-right : Weights 32 low32 21 weights32x21
-weights32x21-right = weighed 32 low32 21 weights32x21 binary32 tt (weights32x21-0)
+weights32x21-right = weighed 32 low32 21 weights32x21 binary32 tt weights32x21-0
 
 unfoldable pub weights32x41 : List ℕ
 weights32x41 =
@@ -43,4 +43,8 @@ unfolding xtime times combine orbit at numerator small right all weights32x41
 weights32x41-28 = passed 32 low32 41 weights32x41 13 28 tt
 
 pub weights32x41-right : Weights 32 low32 41 weights32x41
-weights32x41-right = weighed 32 low32 41 weights32x41 binary32 tt (join 32 low32 41 weights32x41 weights32x41-0 (join 32 low32 41 weights32x41 weights32x41-14 (weights32x41-28)))
+weights32x41-right =
+    weighed 32 low32 41 weights32x41 binary32 tt
+    (join 32 low32 41 weights32x41 weights32x41-0
+    (join 32 low32 41 weights32x41 weights32x41-14
+    weights32x41-28))

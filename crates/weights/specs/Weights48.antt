@@ -24,7 +24,10 @@ unfolding xtime times combine orbit at numerator small right all weights48x21
 weights48x21-11 = passed 48 low48 21 weights48x21 10 11 tt
 
 pub weights48x21-right : Weights 48 low48 21 weights48x21
-weights48x21-right = weighed 48 low48 21 weights48x21 binary48 tt (join 48 low48 21 weights48x21 weights48x21-0 (weights48x21-11))
+weights48x21-right =
+    weighed 48 low48 21 weights48x21 binary48 tt
+    (join 48 low48 21 weights48x21 weights48x21-0
+    weights48x21-11)
 
 unfoldable pub weights48x41 : List ℕ
 weights48x41 =
@@ -61,4 +64,11 @@ unfolding xtime times combine orbit at numerator small right all weights48x41
 weights48x41-35 = passed 48 low48 41 weights48x41 6 35 tt
 
 pub weights48x41-right : Weights 48 low48 41 weights48x41
-weights48x41-right = weighed 48 low48 41 weights48x41 binary48 tt (join 48 low48 41 weights48x41 weights48x41-0 (join 48 low48 41 weights48x41 weights48x41-7 (join 48 low48 41 weights48x41 weights48x41-14 (join 48 low48 41 weights48x41 weights48x41-21 (join 48 low48 41 weights48x41 weights48x41-28 (weights48x41-35))))))
+weights48x41-right =
+    weighed 48 low48 41 weights48x41 binary48 tt
+    (join 48 low48 41 weights48x41 weights48x41-0
+    (join 48 low48 41 weights48x41 weights48x41-7
+    (join 48 low48 41 weights48x41 weights48x41-14
+    (join 48 low48 41 weights48x41 weights48x41-21
+    (join 48 low48 41 weights48x41 weights48x41-28
+    weights48x41-35)))))

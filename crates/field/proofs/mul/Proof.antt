@@ -43,7 +43,8 @@ loop-again c =
     let l = c .before .before .before .loop in (
       c .step .ensures .1,
       product-turn (xtime _ _) (l .sum) (l .left) (l .x) (l .rest) (omega arith)
-          (⊎-elim (λ k. k .1 ∙ pick-one (l .rest % 2) (l .sum) (l .x) (omega arith)) (λ k. k .1 ∙ pick-zero (l .rest % 2) (l .sum) (l .x) (omega arith)) (c .before .if1 .came))
+          (⊎-elim (λ k. k .1 ∙ pick-one (l .rest % 2) (l .sum) (l .x) (omega arith))
+          (λ k. k .1 ∙ pick-zero (l .rest % 2) (l .sum) (l .x) (omega arith)) (c .before .if1 .came))
           (c .step .ensures .0)
           ∙ l .inv .1,
     )

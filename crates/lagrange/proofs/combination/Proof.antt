@@ -27,7 +27,8 @@ loop-again c =
     let p = c .before .before .before .args .p .now in (
       omega arith,
       combine-turn p (l .i) (l .sum) (l .rest) (omega arith)
-          (⊎-elim (λ k. k .2 ∙ pick-one (l .rest % 2) (l .sum) (getD p (l .i) 0) (omega arith)) (λ k. k .1 ∙ pick-zero (l .rest % 2) (l .sum) (getD p (l .i) 0) (omega arith)) (c .if1 .came))
+          (⊎-elim (λ k. k .2 ∙ pick-one (l .rest % 2) (l .sum) (getD p (l .i) 0) (omega arith))
+          (λ k. k .1 ∙ pick-zero (l .rest % 2) (l .sum) (getD p (l .i) 0) (omega arith)) (c .if1 .came))
           ∙ l .inv .1,
     )
 

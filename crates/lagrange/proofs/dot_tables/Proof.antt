@@ -40,5 +40,6 @@ pub dot-tables-spec : {M : Type 1} → statement M
 dot-tables-spec =
     tie.close
     (tie.spec Inv-loop μ-loop (λ c. (search needs, tabled-none _ _)) (λ c. omega (arith, fits c)) (λ c. omega (arith, fits c))
-    (λ c. omega (arith, fits (c .before))) (λ c κs. omega (arith, row-fits 32 {i = c .before .before .loop .k} {n = start (c .before) .args .rows} (omega arith))) (λ c. search needs)
+    (λ c. omega (arith, fits (c .before)))
+    (λ c κs. omega (arith, row-fits 32 {i = c .before .before .loop .k} {n = start (c .before) .args .rows} (omega arith))) (λ c. search needs)
     (λ c. search needs) loop-again returns)

@@ -14,4 +14,7 @@ returns c =
     ap (tab (λ (k : ℕ). getD (s .args .s .now) k 0)) (sym (s .pre)) ∙ tab-list (s .args .s .now)
 
 pub first-eight-spec : {M : Type 1} → statement M
-first-eight-spec = tie.close (tie.spec (λ c. search needs) (λ c. search needs) (λ c. search needs) (λ c. search needs) (λ c. search needs) (λ c. search needs) (λ c. search needs) (λ c. search needs) returns)
+first-eight-spec =
+    tie.close
+    (tie.spec (λ c. search needs) (λ c. search needs) (λ c. search needs) (λ c. search needs) (λ c. search needs)
+    (λ c. search needs) (λ c. search needs) (λ c. search needs) returns)

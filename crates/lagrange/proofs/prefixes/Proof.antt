@@ -37,4 +37,7 @@ returns : tie.Need-returns Inv-loop μ-loop
 returns c = filling-all (c .before .loop .inv .0) (omega arith)
 
 pub prefixes-spec : {M : Type 1} → statement M
-prefixes-spec = tie.close (tie.spec Inv-loop μ-loop loop-holds (λ c. search needs) (λ c. search needs) (λ c κs. search needs) (λ c. search needs) (λ c. search needs) loop-again (λ c. search needs) returns)
+prefixes-spec =
+    tie.close
+    (tie.spec Inv-loop μ-loop loop-holds (λ c. search needs) (λ c. search needs) (λ c κs. search needs) (λ c. search needs)
+    (λ c. search needs) loop-again (λ c. search needs) returns)

@@ -32,4 +32,7 @@ returns c =
     filling-all (c .before .loop .inv) (omega arith) ∙ tab-map (product (a .bits) (a .low) (a .c)) (a .s .now)
 
 pub scale-spec : {M : Type 1} → statement M
-scale-spec = tie.close (tie.spec Inv-loop μ-loop loop-holds (λ c. search needs) (λ c. search needs) (λ c κs. search needs) (λ c. search needs) (λ c. search needs) (λ c. search needs) (λ c. search needs) loop-again (λ c. search needs) returns)
+scale-spec =
+    tie.close
+    (tie.spec Inv-loop μ-loop loop-holds (λ c. search needs) (λ c. search needs) (λ c κs. search needs) (λ c. search needs)
+    (λ c. search needs) (λ c. search needs) (λ c. search needs) loop-again (λ c. search needs) returns)

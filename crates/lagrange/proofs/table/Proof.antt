@@ -17,4 +17,7 @@ returns c =
     h .halves .ensures ∙ ap halves (scaled .scale .ensures ∙ ap (map (product (a .bits) (a .low) (a .c))) (eight .first-eight .ensures))
 
 pub table-spec : {M : Type 1} → statement M
-table-spec = tie.close (tie.spec (λ c κs. search needs) (λ c. search needs) (λ c κs. search needs) (λ c. search needs) (λ c κs. search needs) (λ c. search needs) returns)
+table-spec =
+    tie.close
+    (tie.spec (λ c κs. search needs) (λ c. search needs) (λ c κs. search needs) (λ c. search needs) (λ c κs. search needs)
+    (λ c. search needs) returns)

@@ -40,19 +40,15 @@ returns c =
     let m : a .at + c .before .loop .k ≡ a .at = omega arith in
     c .before .loop .inv .1 ∙ rw (n, m)
 
+-- and the byte is one
+add-x : tie.Need-add-x Inv-loop μ-loop
+add-x c =
+    let k = c .before .before .before in
+    let place = k .before .before .args .at + (k .loop .k - 1) in
+    omega (arith, room c, c .before .shared-slice-known2 .given place, c .wide .ensures)
+
 pub load-spec : {M : Type 1} → statement M
 load-spec =
     tie.close
-    (tie.spec
-    Inv-loop
-    μ-loop
-    loop-holds
-    (λ c. search needs)
-    (λ c. search needs)
-    (λ c. search needs)
-    (λ c κs. search needs)
-    (λ c. omega (arith, room c))
-    (λ c. omega (arith, room c, c .before .shared-slice-known2 .given (c .before .before .before .before .before .args .at + (c .before .before .before .loop .k - 1)), c .wide .ensures))
-    (λ c. search needs)
-    loop-again
-    returns)
+    (tie.spec Inv-loop μ-loop loop-holds (λ c. search needs) (λ c. search needs) (λ c. search needs) (λ c κs. search needs)
+    (λ c. omega (arith, room c)) add-x (λ c. search needs) loop-again returns)
