@@ -31,9 +31,12 @@ loop-again : tie.Need-loop-again Inv-loop μ-loop
 loop-again c =
     let b = c .before .before .before .before .before in
     let l = b .before .loop in
-    let s = b .before .before .before .before .before .before .before .before in
-    let more = down-more _ _ _ (s .pre .3) (s .pre .1) (l .inv .2) (omega arith) (l .inv .0) (l .inv .1) in
-    (omega arith, search needs, more (c .before .before .before .mul .ensures) (c .before .mul2 .ensures) (c .mul3 .ensures))
+    let s = b .before .before .before .before .before .before .before .before in (
+      omega arith,
+      search needs,
+      down-more _ _ _ (s .pre .3) (s .pre .1) (l .inv .2) (omega arith) (l .inv .0) (l .inv .1)
+          (c .before .before .before .mul .ensures) (c .before .mul2 .ensures) (c .mul3 .ensures),
+    )
 
 returns : tie.Need-returns Inv-loop μ-loop
 returns c = let l = c .before .loop in down-all _ _ _ (l .inv .2) (omega arith) (l .inv .1)
