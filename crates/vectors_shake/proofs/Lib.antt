@@ -1,2 +1,0 @@
--- A published value of the definition, which antt computes.
-mod Vector
