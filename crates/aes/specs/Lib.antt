@@ -4,4 +4,3 @@ pub mod Examples
 pub mod Zero
 pub mod Sizes
 pub mod KeyExpansion
-pub mod Steps

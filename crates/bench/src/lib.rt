@@ -9,7 +9,7 @@ pub extern "C" fn bench_permute(s: &mut [u64; 25])
     ensures { λ _. ⌜ now (s .exit) ≡ keccakF (now (s .entry)) ⌝ }
 {
     let a = *s;
-    let t = keccak::permute(a);
+    let t = permutation::permute(a);
     *s = t;
 }
 

@@ -1,3 +1,2 @@
 -- Laws for proofs of functions.
 pub mod Products
-pub mod Sums

@@ -1,3 +1,2 @@
 -- The definitions that the contracts of `lagrange` cite.
 pub mod Values
-pub mod Tables

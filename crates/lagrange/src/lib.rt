@@ -1,18 +1,13 @@
-// Values of interpolating polynomials at a point, in the field of X^bits + low: Lagrange's values for the points 0, 1, .. by products of
-// x - i before and after each point and constant weights, with no division, so that x may be a point; and dot products with them.
+// Lagrange's values in the field of X^bits + low, for the points 0, 1, ..: by products of x - i before and after each point and constant
+// weights, with no division, so that x may be a point.
 ghost use mathlib.Core.Path.{_≡_};
-ghost use mathlib.Core.List.{map};
-ghost use Prim.Native.Nat.{_*_, _+_, _/_, _%_, _≤_, _<_, _^_};
-ghost use lib.Bits.{bitXor};
-ghost use lib.ListN.{length, getD};
-ghost use Rattle.slices.specs.Lists.{tab, rows as stacked};
-ghost use Rattle.field.specs.Linear.{combine};
-ghost use Rattle.field.specs.Ring.{mul as product};
+ghost use Prim.Native.Nat.{_<_, _^_};
+ghost use lib.ListN.{length};
+ghost use Rattle.slices.specs.Lists.{tab};
 ghost use Rattle.field.specs.Wide.{Element};
 ghost use Rattle.field.specs.Fits.{Fits};
 ghost use Rattle.weights.specs.Weights.{Weights};
-ghost use Rattle.lagrange.specs.Values.{upto, lagrangeValue, dotProduct};
-ghost use Rattle.lagrange.specs.Tables.{halves as halvesOf, tableOf, tabled};
+ghost use Rattle.lagrange.specs.Values.{upto, lagrangeValue};
 
 // The products of x - i over i < k, for each k.
 fn prefixes(bits: u32, low: u64, x: u64, out: &mut [u64])
@@ -22,7 +17,7 @@ fn prefixes(bits: u32, low: u64, x: u64, out: &mut [u64])
     let mut product = 1;
     for k in 0..out.len() {
         out[k] = product;
-        product = field::mul(bits, low, product, x ^ (k as u64));
+        product = gf::mul(bits, low, product, x ^ (k as u64));
     }
 }
 
@@ -36,9 +31,9 @@ pub fn values(bits: u32, low: u64, x: u64, weights: &[u64], out: &mut [u64])
     let mut k = out.len();
     while k > 0 {
         k -= 1;
-        let numerator = field::mul(bits, low, out[k], product);
-        out[k] = field::mul(bits, low, numerator, weights[k]);
-        product = field::mul(bits, low, product, x ^ (k as u64));
+        let numerator = gf::mul(bits, low, out[k], product);
+        out[k] = gf::mul(bits, low, numerator, weights[k]);
+        product = gf::mul(bits, low, product, x ^ (k as u64));
     }
 }
 
@@ -212,113 +207,4 @@ pub fn values48_41(x: u64, out: &mut [u64])
 {
     let weights = WEIGHTS48_41;
     values(48, 0x2d, x, &weights, out);
-}
-
-// The sum of coefficient k times value k, over the values.
-pub fn dot(bits: u32, low: u64, coefficients: &[u64], values: &[u64]) -> u64
-    requires { ⌜ Fits bits low × (length (now values) ≤ length (now coefficients)) ⌝ }
-    ensures { λ r. ⌜ r ≡ dotProduct bits low (length (now (values .entry))) (λ k. getD (now (values .entry)) k 0) (λ k. getD (now (coefficients .entry)) k 0) ⌝ }
-{
-    let mut sum: u64 = 0;
-    for k in 0..values.len() {
-        let term = field::mul(bits, low, values[k], coefficients[k]);
-        sum = sum ^ term;
-    }
-    sum
-}
-
-// The sum of those elements of p whose bit is set in v.
-fn combination(p: &[u64], v: usize) -> u64
-    ensures { λ r. ⌜ r ≡ combine (now (p .entry)) v ⌝ }
-{
-    let mut sum: u64 = 0;
-    let mut rest = v;
-    for i in 0..p.len() {
-        if rest % 2 == 1 {
-            sum = sum ^ p[i];
-        }
-        rest = rest / 2;
-    }
-    sum
-}
-
-// The sixteen combinations of four numbers.
-fn combinations(p: &[u64], out: &mut [u64])
-    requires { ⌜ length (now out) ≡ 16 ⌝ }
-    ensures { λ _. ⌜ now (out .exit) ≡ tab (combine (now (p .entry))) 16 ⌝ }
-{
-    for v in 0..16 {
-        out[v] = combination(p, v);
-    }
-}
-
-// The two tables of eight numbers.
-fn halves(p: &[u64], out: &mut [u64])
-    requires { ⌜ (length (now p) ≡ 8) × (length (now out) ≡ 32) ⌝ }
-    ensures { λ _. ⌜ now (out .exit) ≡ halvesOf (now (p .entry)) ⌝ }
-{
-    combinations(&p[0..4], &mut out[0..16]);
-    combinations(&p[4..8], &mut out[16..32]);
-}
-
-// c times each of s, in place.
-fn scale(bits: u32, low: u64, c: u64, s: &mut [u64])
-    requires { ⌜ Fits bits low ⌝ }
-    ensures { λ _. ⌜ now (s .exit) ≡ map (product bits low c) (now (s .entry)) ⌝ }
-{
-    for i in 0..s.len() {
-        s[i] = field::mul(bits, low, c, s[i]);
-    }
-}
-
-fn first_eight(s: &[u64]) -> [u64; 8]
-    requires { ⌜ length (now s) ≡ 8 ⌝ }
-    ensures { λ r. ⌜ r ≡ now (s .entry) ⌝ }
-{
-    [s[0], s[1], s[2], s[3], s[4], s[5], s[6], s[7]]
-}
-
-// The two tables of the coefficient c.
-fn table(bits: u32, low: u64, powers: &[u64], c: u64, out: &mut [u64])
-    requires { ⌜ Fits bits low × (length (now powers) ≡ 8) × (length (now out) ≡ 32) ⌝ }
-    ensures { λ _. ⌜ now (out .exit) ≡ tableOf bits low (now (powers .entry)) c ⌝ }
-{
-    let mut p = first_eight(powers);
-    scale(bits, low, c, &mut p);
-    halves(&p, out);
-}
-
-// The tables of each coefficient, one after the other; the lift of a byte is the combination of the eight powers.
-pub fn tables(bits: u32, low: u64, powers: &[u64], coefficients: &[u64], out: &mut [u64])
-    requires { ⌜ Fits bits low × (length (now powers) ≡ 8) × (length (now out) ≡ length (now coefficients) * 32) ⌝ }
-    ensures { λ _. ⌜ now (out .exit) ≡ stacked (λ k. tableOf bits low (now (powers .entry)) (getD (now (coefficients .entry)) k 0)) (length (now (coefficients .entry))) ⌝ }
-{
-    for k in 0..coefficients.len() {
-        let a = k * 32;
-        let e = a + 32;
-        table(bits, low, powers, coefficients[k], &mut out[a..e]);
-    }
-}
-
-// The sum over k < rows of coefficient k times the lift of byte j + m1 k, by the coefficients' tables.
-pub fn dot_tables(tables: &[u64], bytes: &[u8], rows: usize, m1: usize, j: usize) -> u64
-    requires { ⌜ (rows * 32 ≤ length (now tables)) × (m1 * rows ≤ length (now bytes)) × (j < m1) ⌝ }
-    ensures { λ r. ⌜ r ≡ tabled rows (λ k. getD (now (bytes .entry)) (j + m1 * k) 0) (now (tables .entry)) ⌝ }
-{
-    let mut sum: u64 = 0;
-    for k in 0..rows {
-        let b = bytes[j + m1 * k];
-        sum = sum ^ entries(tables, k, b);
-    }
-    sum
-}
-
-// The entries for b in the tables of coefficient k.
-fn entries(tables: &[u64], k: usize, b: u8) -> u64
-    requires { ⌜ k * 32 + 32 ≤ length (now tables) ⌝ }
-    ensures { λ r. ⌜ r ≡ bitXor (getD (now (tables .entry)) (k * 32 + b % 16) 0) (getD (now (tables .entry)) (k * 32 + (16 + b / 16)) 0) ⌝ }
-{
-    let n = b as usize;
-    let at = k * 32;
-    tables[at + n % 16] ^ tables[at + (16 + n / 16)]
 }

@@ -10,7 +10,7 @@ use Rattle.slices.specs.Lists.{tab}
 use Rattle.slices.specs.Bytes.{Bytes, Sized, nil-bytes, append-bytes, take-bytes, drop-bytes, tab-bytes}
 use Rattle.slices.specs.Numbers.{bytesOf-bytes}
 use Rattle.keccak.specs.Keccak.{keccakF}
-use Rattle.keccak.proofs.Laws.{length-keccakF}
+use Rattle.keccak.specs.Laws.{length-keccakF}
 use Rattle.shake.specs.declared.Sponge.{Sponge}
 use Rattle.shake.specs.Padding.{rate, padding}
 use Rattle.shake.specs.Shake128.{byteOf, padded, xorBlock, absorbBlocks, squeezeBlocks, shake128}

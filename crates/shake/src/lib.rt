@@ -61,7 +61,7 @@ pub fn absorb(s: Sponge, src: &[u8]) -> Sponge
     let mut j = 0;
     while j < src.len() {
         if 168 <= at {
-            let t = keccak::permute(lanes);
+            let t = permutation::permute(lanes);
             lanes = t;
             at = 0;
         }
@@ -82,14 +82,14 @@ pub fn finish(s: Sponge) -> Sponge
     let mut lanes = s.lanes;
     let mut at = s.at;
     if 168 <= at {
-        let t = keccak::permute(lanes);
+        let t = permutation::permute(lanes);
         lanes = t;
         at = 0;
     }
     let k = at / 8;
     lanes[k] = lanes[k] ^ (0x1f << (8 * (at % 8)));
     lanes[20] = lanes[20] ^ 0x8000_0000_0000_0000;
-    let t = keccak::permute(lanes);
+    let t = permutation::permute(lanes);
     Sponge { lanes: t, at: 0 }
 }
 
@@ -102,7 +102,7 @@ pub fn squeeze(s: Sponge, out: &mut [u8]) -> Sponge
     let mut j = 0;
     while j < out.len() {
         if 168 <= at {
-            let t = keccak::permute(lanes);
+            let t = permutation::permute(lanes);
             lanes = t;
             at = 0;
         }

@@ -47,7 +47,7 @@ fn encrypt(line: &[u8], inputs: &mut [u8]) -> [u8; 16]
 {
     let key = decode(&line[0..32]);
     let plaintext = decode(&line[33..65]);
-    aes::encrypt(&key, &plaintext, inputs)
+    cipher::encrypt(&key, &plaintext, inputs)
 }
 
 fn answer(line: &[u8])
@@ -59,7 +59,7 @@ fn answer(line: &[u8])
     io::write_all(STDOUT_FILENO, b" ");
     print_bytes(&ciphertext);
     io::write_all(STDOUT_FILENO, b" ");
-    io::print_decimal(STDOUT_FILENO, aes::first_zero(&inputs) as u64);
+    io::print_decimal(STDOUT_FILENO, cipher::first_zero(&inputs) as u64);
     io::write_all(STDOUT_FILENO, b"\n");
 }
 

@@ -23,21 +23,21 @@ fn end_line() {
 fn product32(a: u64, b: u64) {
     print(b"32 bits: ", a);
     print(b" * ", b);
-    print(b" = ", field::mul(32, 0x8d, a, b));
+    print(b" = ", gf::mul(32, 0x8d, a, b));
     end_line();
 }
 
 fn product48(a: u64, b: u64) {
     print(b"48 bits: ", a);
     print(b" * ", b);
-    print(b" = ", field::mul(48, 0x2d, a, b));
+    print(b" = ", gf::mul(48, 0x2d, a, b));
     end_line();
 }
 
 fn byte(b: u8) {
     print(b"byte ", wide(b));
-    print(b": inverse ", wide(field::inverse(b)));
-    print(b", lift ", field::lift(b) as u64);
+    print(b": inverse ", wide(gf::inverse(b)));
+    print(b", lift ", gf::lift(b) as u64);
     end_line();
 }
 
@@ -77,14 +77,14 @@ fn values48(x: u64)
 // The lifts of 1, 2, 4, .. 128.
 fn powers() -> [u64; 8] {
     [
-        field::lift(1) as u64,
-        field::lift(2) as u64,
-        field::lift(4) as u64,
-        field::lift(8) as u64,
-        field::lift(16) as u64,
-        field::lift(32) as u64,
-        field::lift(64) as u64,
-        field::lift(128) as u64,
+        gf::lift(1) as u64,
+        gf::lift(2) as u64,
+        gf::lift(4) as u64,
+        gf::lift(8) as u64,
+        gf::lift(16) as u64,
+        gf::lift(32) as u64,
+        gf::lift(64) as u64,
+        gf::lift(128) as u64,
     ]
 }
 
@@ -101,7 +101,7 @@ fn print_dots(tables: &[u64], s: &[u8])
     requires { ⌜ (length (now tables) ≡ 672) × (length (now s) ≡ 200) ⌝ }
 {
     for j in 0..10 {
-        print(b" ", lagrange::dot_tables(tables, s, 20, 10, j));
+        print(b" ", dots::dot_tables(tables, s, 20, 10, j));
     }
     end_line();
 }
@@ -115,7 +115,7 @@ fn dots(x: u64)
     lagrange::values32_21(x, &mut coefficients);
     let p = powers();
     let mut tables = [0u64; 672];
-    lagrange::tables(32, 0x8d, &p, &coefficients, &mut tables);
+    dots::tables(32, 0x8d, &p, &coefficients, &mut tables);
     let s = bytes();
     print(b"lifted bytes, at ", x);
     print_dots(&tables, &s);
@@ -129,7 +129,7 @@ fn dot(x: u64)
     let mut points = [0u64; 41];
     lagrange::values32_41(0x89abcdef, &mut points);
     print(b"41 values, at ", x);
-    print(b" ", lagrange::dot(32, 0x8d, &coefficients, &points));
+    print(b" ", dots::dot(32, 0x8d, &coefficients, &points));
     end_line();
 }
 

@@ -1,0 +1,97 @@
+// AES-128 (FIPS 197), with what its S-boxes are given.
+ghost use mathlib.Core.Path.{_≡_};
+ghost use mathlib.Core.List.{map};
+ghost use Prim.Native.Nat.{_<_};
+ghost use lib.ListN.{length};
+ghost use Rattle.slices.specs.Lists.{rows};
+ghost use Rattle.field.specs.Byte.{inverse8};
+ghost use Rattle.aes.specs.Aes.{sbox, add, rcon, sub-word, next-key, key-input, round-key, key-expansion, entering, cipher, aes};
+ghost use Rattle.aes.specs.Aes.{key-inputs, sbox-inputs, first-zero};
+
+// Puts its inverse in place of each byte, 0 for 0.
+pub fn invert(s: &mut [u8])
+    ensures { λ _. ⌜ now (s .exit) ≡ map inverse8 (now (s .entry)) ⌝ }
+{
+    for i in 0..s.len() {
+        s[i] = gf::inverse(s[i]);
+    }
+}
+
+// SubBytes() and SubWord(): the S-box of each byte.
+fn substitute(s: &mut [u8])
+    ensures { λ _. ⌜ now (s .exit) ≡ map sbox (now (s .entry)) ⌝ }
+{
+    invert(s);
+    steps::affine(s, 0x63);
+}
+
+// The round key after round key n, which is k.
+fn next_round_key(k: [u8; 16], n: usize) -> [u8; 16]
+    requires { ⌜ n < 10 ⌝ }
+    ensures { λ r. ⌜ r ≡ next-key k (add 4 (sub-word (key-input k)) (rcon n)) ⌝ }
+{
+    let mut s = steps::key_input(k);
+    substitute(&mut s);
+    steps::key_step(k, s, steps::round_constant(n))
+}
+
+// The expanded key, and into inputs what the key schedule's 40 S-boxes are given.
+pub fn expand(key: &[u8], inputs: &mut [u8]) -> [u8; 176]
+    requires { ⌜ length (now key) ≡ 16 ⌝ }
+    requires { ⌜ length (now inputs) ≡ 40 ⌝ }
+    ensures { λ r. ⌜ r ≡ key-expansion (now (key .entry)) ⌝ }
+    ensures { λ _. ⌜ now (inputs .exit) ≡ key-inputs (round-key (now (key .entry))) ⌝ }
+{
+    let mut w = [0u8; 176];
+    let mut k = steps::block_at(key, 0);
+    for n in 0..10 {
+        slices::copy_at(inputs, n * 4, &steps::key_input(k));
+        slices::copy_at(&mut w, n * 16, &k);
+        k = next_round_key(k, n);
+    }
+    slices::copy_at(&mut w, 160, &k);
+    w
+}
+
+// The ciphertext under an expanded key, and into inputs the states that SubBytes() is given in the ten rounds.
+pub fn encrypt_rounds(w: &[u8], plaintext: &[u8], inputs: &mut [u8]) -> [u8; 16]
+    requires { ⌜ length (now w) ≡ 176 ⌝ }
+    requires { ⌜ length (now plaintext) ≡ 16 ⌝ }
+    requires { ⌜ length (now inputs) ≡ 160 ⌝ }
+    ensures { λ r. ⌜ r ≡ cipher (now (w .entry)) (now (plaintext .entry)) ⌝ }
+    ensures { λ _. ⌜ now (inputs .exit) ≡ rows (entering (now (w .entry)) (now (plaintext .entry))) 10 ⌝ }
+{
+    let mut x = steps::add_blocks(steps::block_at(plaintext, 0), steps::block_at(w, 0));
+    for n in 0..9 {
+        slices::copy_at(inputs, n * 16, &x);
+        substitute(&mut x);
+        x = steps::round(x, steps::block_at(w, n + 1));
+    }
+    slices::copy_at(inputs, 144, &x);
+    substitute(&mut x);
+    steps::last_round(x, steps::block_at(w, 10))
+}
+
+// The ciphertext, and into inputs what the 200 S-boxes are given.
+pub fn encrypt(key: &[u8], plaintext: &[u8], inputs: &mut [u8]) -> [u8; 16]
+    requires { ⌜ length (now key) ≡ 16 ⌝ }
+    requires { ⌜ length (now plaintext) ≡ 16 ⌝ }
+    requires { ⌜ length (now inputs) ≡ 200 ⌝ }
+    ensures { λ r. ⌜ r ≡ aes (now (key .entry)) (now (plaintext .entry)) ⌝ }
+    ensures { λ _. ⌜ now (inputs .exit) ≡ sbox-inputs (now (key .entry)) (now (plaintext .entry)) ⌝ }
+{
+    let w = expand(key, &mut inputs[0..40]);
+    encrypt_rounds(&w, plaintext, &mut inputs[40..])
+}
+
+// The index of the first zero, or the length where there is none.
+pub fn first_zero(s: &[u8]) -> usize
+    ensures { λ r. ⌜ r ≡ first-zero (now (s .entry)) ⌝ }
+{
+    for i in 0..s.len() {
+        if s[i] == 0 {
+            return i;
+        }
+    }
+    s.len()
+}

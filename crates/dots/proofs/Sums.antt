@@ -1,0 +1,56 @@
+-- Loops that sum products, entries of tables, and elements picked by bits. Assumes nothing.
+use mathlib.Core.Path.{_≡_, refl, sym, ap, ap₂, _∙_}
+use mathlib.Core.List.{List}
+use Prim.Native.Nat.{ℕ, suc, _+_, _*_, _/_, _%_, _≤_, _<_}
+use native.Mathlib.Nat.{mul-suc, mul-le-mul-left}
+use native.Mathlib.Numerals.{add-one}
+use native.Mathlib.Omega.{arith}
+use lib.Bits.{bitXor, xor-zero-r}
+use lib.ListN.{length, getD, drop, drop-of-length-le}
+use lib.Seq.{drop-cons}
+use Rattle.slices.specs.Xor.{xor-assoc}
+use Rattle.poly.specs.Sum.{sum}
+use Rattle.field.specs.Linear.{pick, combine}
+use Rattle.field.specs.Ring.{mul}
+use Rattle.lagrange.specs.Values.{dotProduct}
+use Rattle.dots.specs.Tables.{tabled}
+
+-- ---- dot products
+
+module _ (w low : ℕ) (f g : ℕ → ℕ) where
+  pub dot-none : 0 ≡ dotProduct w low 0 f g
+  unfolding dotProduct sum
+  dot-none = refl
+
+  pub dot-more : (n : ℕ) {s t : ℕ} → s ≡ dotProduct w low n f g → t ≡ mul w low (f n) (g n) → bitXor s t ≡ dotProduct w low (n + 1) f g
+  unfolding dotProduct sum
+  dot-more n p q = ap₂ bitXor p q ∙ ap (λ i. dotProduct w low i f g) (sym (add-one n))
+
+-- ---- by tables
+
+module _ (f : ℕ → ℕ) (t : List ℕ) where
+  pub tabled-none : 0 ≡ tabled 0 f t
+  unfolding tabled
+  tabled-none = refl
+
+  pub tabled-more : (n : ℕ) {s e : ℕ} → s ≡ tabled n f t → e ≡ bitXor (getD t (n * 32 + f n % 16) 0) (getD t (n * 32 + (16 + f n / 16)) 0)
+      → bitXor s e ≡ tabled (n + 1) f t
+  unfolding tabled
+  tabled-more n p q = ap₂ bitXor p q ∙ ap (λ i. tabled i f t) (sym (add-one n))
+
+-- the place of a byte: cell k of m rows fits
+pub cell-fits : (m k n : ℕ) → k < n → m * k + m ≤ m * n
+cell-fits m k n h = omega (arith, mul-suc m k, mul-le-mul-left m h)
+
+-- ---- a combination: the sum so far, and what the rest of the bits add to it
+
+module _ (p : List ℕ) where
+  pub combine-turn : (i s v : ℕ) {s′ : ℕ} → i < length p → s′ ≡ bitXor s (pick (v % 2) (getD p i 0))
+      → bitXor s′ (combine (drop (i + 1) p) (v / 2)) ≡ bitXor s (combine (drop i p) v)
+  unfolding combine
+  combine-turn i s v h e =
+      rw (drop-cons p i 0 h, add-one, e) (xor-assoc s (pick (v % 2) (getD p i 0)) (combine (drop (suc i) p) (v / 2)))
+
+  pub combine-end : (i s v : ℕ) → length p ≤ i → s ≡ bitXor s (combine (drop i p) v)
+  unfolding combine
+  combine-end i s v h = rw (drop-of-length-le p h) (sym (xor-zero-r s))

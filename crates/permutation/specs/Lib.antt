@@ -1,0 +1,2 @@
+-- The struct of lanes as a list.
+pub mod State

@@ -1,0 +1,146 @@
+// One party's walk through AES: from its shares of the key and of the inverses to its shares of the S-boxes' inputs and of the output.
+ghost use mathlib.Core.Path.{_≡_};
+ghost use Prim.Native.Nat.{_+_, _*_, _<_, _≤_};
+ghost use lib.ListN.{length};
+ghost use Rattle.slices.specs.Lists.{rows};
+ghost use Rattle.field.specs.Byte.{mul8};
+ghost use Rattle.aes.specs.Aes.{add, word, rcon, next-key, key-inputs};
+ghost use Rattle.circuit.specs.Circuit.{share, public, sbox-outputs, round-key-share, expansion-share, entering-share, cipher-share};
+ghost use Rattle.circuit.specs.Circuit.{input-shares, output-share, even-mansour-input-shares, even-mansour-output-share};
+
+// A party's share of the public byte c.
+fn public_byte(one: u8, c: u8) -> u8
+    requires { ⌜ one < 2 ⌝ }
+    ensures { λ r. ⌜ r ≡ mul8 one c ⌝ }
+{
+    if one == 0 { 0 } else { c }
+}
+
+// A party's share of the public bytes v.
+fn public_share(one: u8, v: &[u8], out: &mut [u8])
+    requires { ⌜ one < 2 ⌝ }
+    requires { ⌜ length (now out) ≡ length (now v) ⌝ }
+    ensures { λ _. ⌜ now (out .exit) ≡ public one (length (now (v .entry))) (now (v .entry)) ⌝ }
+{
+    if one == 0 {
+        slices::zero(out);
+        return;
+    }
+    slices::copy(out, v);
+}
+
+// What the S-boxes give for the shares of their inverses.
+fn sbox_outputs(one: u8, inverses: &[u8], out: &mut [u8])
+    requires { ⌜ one < 2 ⌝ }
+    requires { ⌜ length (now out) ≡ length (now inverses) ⌝ }
+    ensures { λ _. ⌜ now (out .exit) ≡ sbox-outputs (length (now (inverses .entry))) one (now (inverses .entry)) ⌝ }
+{
+    slices::copy(out, inverses);
+    steps::affine(out, public_byte(one, 0x63));
+}
+
+// The share of the round key after round key n, whose share is k.
+fn next_key_share(one: u8, k: [u8; 16], z: &[u8], n: usize) -> [u8; 16]
+    requires { ⌜ one < 2 ⌝ }
+    requires { ⌜ n < 10 ⌝ }
+    requires { ⌜ 40 ≤ length (now z) ⌝ }
+    ensures { λ r. ⌜ r ≡ next-key k (add 4 (word (now (z .entry)) n) (public one 4 (rcon n))) ⌝ }
+{
+    let at = n * 4;
+    let s = [z[at], z[at + 1], z[at + 2], z[at + 3]];
+    steps::key_step(k, s, public_byte(one, steps::round_constant(n)))
+}
+
+// The expanded key's share, and into inputs those of what the key schedule's 40 S-boxes are given, where the S-boxes give z.
+fn schedule(one: u8, key: &[u8], z: &[u8], inputs: &mut [u8]) -> [u8; 176]
+    requires { ⌜ one < 2 ⌝ }
+    requires { ⌜ length (now key) ≡ 16 ⌝ }
+    requires { ⌜ 40 ≤ length (now z) ⌝ }
+    requires { ⌜ length (now inputs) ≡ 40 ⌝ }
+    ensures { λ r. ⌜ r ≡ expansion-share one (now (key .entry)) (now (z .entry)) ⌝ }
+    ensures { λ _. ⌜ now (inputs .exit) ≡ key-inputs (round-key-share one (now (key .entry)) (now (z .entry))) ⌝ }
+{
+    let mut w = [0u8; 176];
+    let mut k = steps::block_at(key, 0);
+    for n in 0..10 {
+        slices::copy_at(inputs, n * 4, &steps::key_input(k));
+        slices::copy_at(&mut w, n * 16, &k);
+        k = next_key_share(one, k, z, n);
+    }
+    slices::copy_at(&mut w, 160, &k);
+    w
+}
+
+// The output's share, and into inputs those of the states that SubBytes() is given in the ten rounds, for shares of an expanded key w and of the
+// plaintext p, where the S-boxes give z.
+fn rounds(w: &[u8], p: &[u8], z: &[u8], inputs: &mut [u8]) -> [u8; 16]
+    requires { ⌜ length (now w) ≡ 176 ⌝ }
+    requires { ⌜ length (now p) ≡ 16 ⌝ }
+    requires { ⌜ length (now z) ≡ 160 ⌝ }
+    requires { ⌜ length (now inputs) ≡ 160 ⌝ }
+    ensures { λ r. ⌜ r ≡ cipher-share (now (w .entry)) (now (z .entry)) ⌝ }
+    ensures { λ _. ⌜ now (inputs .exit) ≡ rows (entering-share (now (w .entry)) (now (p .entry)) (now (z .entry))) 10 ⌝ }
+{
+    let mut x = steps::add_blocks(steps::block_at(p, 0), steps::block_at(w, 0));
+    for n in 0..9 {
+        slices::copy_at(inputs, n * 16, &x);
+        x = steps::round(steps::block_at(z, n), steps::block_at(w, n + 1));
+    }
+    slices::copy_at(inputs, 144, &x);
+    steps::last_round(steps::block_at(z, 9), steps::block_at(w, 10))
+}
+
+// AES: the output's share, and into inputs those of what the 200 S-boxes are given. `one` is 1 for party 0, and 0 for the others.
+pub fn aes_circuit(
+    one: u8,
+    key: &[u8],
+    plaintext: &[u8],
+    inverses: &[u8],
+    inputs: &mut [u8],
+) -> [u8; 16]
+    requires { ⌜ one < 2 ⌝ }
+    requires { ⌜ length (now key) ≡ 16 ⌝ }
+    requires { ⌜ length (now plaintext) ≡ 16 ⌝ }
+    requires { ⌜ length (now inverses) ≡ 200 ⌝ }
+    requires { ⌜ length (now inputs) ≡ 200 ⌝ }
+    ensures { λ r. ⌜ r ≡ output-share (share one (now (key .entry)) (now (inverses .entry))) ⌝ }
+    ensures { λ _. ⌜ now (inputs .exit) ≡ input-shares (now (plaintext .entry)) (share one (now (key .entry)) (now (inverses .entry))) ⌝ }
+{
+    let mut z = [0u8; 200];
+    sbox_outputs(one, inverses, &mut z);
+    let w = schedule(one, key, &z, &mut inputs[0..40]);
+    let mut p = [0u8; 16];
+    public_share(one, plaintext, &mut p);
+    rounds(&w, &p, &z[40..], &mut inputs[40..])
+}
+
+// The Even-Mansour form under a public expanded key w: the output's share, and into inputs those of what the rounds' 160 S-boxes are given.
+pub fn even_mansour_circuit(
+    one: u8,
+    key: &[u8],
+    w: &[u8],
+    x: &[u8],
+    inverses: &[u8],
+    inputs: &mut [u8],
+) -> [u8; 16]
+    requires { ⌜ one < 2 ⌝ }
+    requires { ⌜ length (now key) ≡ 16 ⌝ }
+    requires { ⌜ length (now w) ≡ 176 ⌝ }
+    requires { ⌜ length (now x) ≡ 16 ⌝ }
+    requires { ⌜ length (now inverses) ≡ 160 ⌝ }
+    requires { ⌜ length (now inputs) ≡ 160 ⌝ }
+    ensures { λ r. ⌜ r ≡ even-mansour-output-share (now (w .entry)) (share one (now (key .entry)) (now (inverses .entry))) ⌝ }
+    ensures { λ _. ⌜ now (inputs .exit)
+        ≡ even-mansour-input-shares (now (w .entry)) (now (x .entry)) (share one (now (key .entry)) (now (inverses .entry))) ⌝ }
+{
+    let mut z = [0u8; 160];
+    sbox_outputs(one, inverses, &mut z);
+    let mut v = [0u8; 176];
+    public_share(one, w, &mut v);
+    let mut p = [0u8; 16];
+    public_share(one, x, &mut p);
+    let k = steps::block_at(key, 0);
+    let start = steps::add_blocks(p, k);
+    let output = rounds(&v, &start, &z, inputs);
+    steps::add_blocks(output, k)
+}

@@ -1,0 +1,2 @@
+-- How the steps are worked out.
+pub mod Steps

@@ -1,0 +1,202 @@
+// The steps of AES (FIPS 197, 5.1 and 5.2), for the cipher and for a party of the circuit, which takes them on shares.
+ghost use mathlib.Core.Path.{_≡_};
+ghost use mathlib.Core.List.{map, [], _∷_};
+ghost use Prim.Native.Nat.{_+_, _*_, _<_, _≤_};
+ghost use lib.Bits.{bitXor};
+ghost use lib.ListN.{getD, length};
+ghost use Rattle.field.specs.Byte.{mul8};
+ghost use Rattle.aes.specs.Aes.{add, block, matrix, shift-rows, mix-columns, round-constants, next-key, key-input};
+ghost use Rattle.steps.specs.Steps.{below, doubled-plus};
+
+// 4.1, and 5.1.4 where b is a round key.
+pub fn add_blocks(a: [u8; 16], b: [u8; 16]) -> [u8; 16]
+    ensures { λ r. ⌜ r ≡ add 16 a b ⌝ }
+{
+    let mut out = [0u8; 16];
+    for i in 0..16 {
+        out[i] = a[i] ^ b[i];
+    }
+    out
+}
+
+// Block n of s.
+pub fn block_at(s: &[u8], n: usize) -> [u8; 16]
+    requires { ⌜ n * 16 + 16 ≤ length (now s) ⌝ }
+    ensures { λ r. ⌜ r ≡ block (now (s .entry)) n ⌝ }
+{
+    let at = n * 16;
+    let end = at + 16;
+    let mut out = [0u8; 16];
+    slices::copy(&mut out, &s[at..end]);
+    out
+}
+
+// 5.1.1, (5.1): b plus b rotated by 1, 2, 3 and 4 bits, and then c added.
+fn affine_byte(b: u8, c: u8) -> u8
+    ensures { λ r. ⌜ r ≡ bitXor (matrix b) c ⌝ }
+{
+    let r1 = (b << 1) ^ (b >> 7);
+    let r2 = (b << 2) ^ (b >> 6);
+    let r3 = (b << 3) ^ (b >> 5);
+    let r4 = (b << 4) ^ (b >> 4);
+    b ^ r1 ^ r2 ^ r3 ^ r4 ^ c
+}
+
+// The affine transformation of each byte, with the constant c.
+pub fn affine(s: &mut [u8], c: u8)
+    ensures { λ _. ⌜ now (s .exit) ≡ map (λ b. bitXor (matrix b) c) (now (s .entry)) ⌝ }
+{
+    for i in 0..s.len() {
+        s[i] = affine_byte(s[i], c);
+    }
+}
+
+// 5.1.2: row r moves r columns to the left.
+fn shift_rows(s: [u8; 16]) -> [u8; 16]
+    ensures { λ r. ⌜ r ≡ shift-rows s ⌝ }
+{
+    [
+        s[0],
+        s[5],
+        s[10],
+        s[15],
+        s[4],
+        s[9],
+        s[14],
+        s[3],
+        s[8],
+        s[13],
+        s[2],
+        s[7],
+        s[12],
+        s[1],
+        s[6],
+        s[11],
+    ]
+}
+
+// 4.2.1: 02 times a.
+fn double(a: u8) -> u8
+    ensures { λ r. ⌜ r ≡ mul8 2 a ⌝ }
+{
+    let shifted = a << 1;
+    if a < 0x80 { shifted } else { shifted ^ 0x1b }
+}
+
+// Each byte's neighbour below it in its column.
+fn below(x: [u8; 16]) -> [u8; 16]
+    ensures { λ r. ⌜ r ≡ below x ⌝ }
+{
+    [
+        x[1],
+        x[2],
+        x[3],
+        x[0],
+        x[5],
+        x[6],
+        x[7],
+        x[4],
+        x[9],
+        x[10],
+        x[11],
+        x[8],
+        x[13],
+        x[14],
+        x[15],
+        x[12],
+    ]
+}
+
+// 02 u + t + v.
+fn doubled_plus(u: [u8; 16], t: [u8; 16], v: [u8; 16]) -> [u8; 16]
+    ensures { λ r. ⌜ r ≡ doubled-plus u t v ⌝ }
+{
+    let mut out = [0u8; 16];
+    for i in 0..16 {
+        out[i] = double(u[i]) ^ t[i] ^ v[i];
+    }
+    out
+}
+
+// 5.1.3: 02 a + 03 b + c + d is 02 (a + b) + b + (c + d).
+fn mix_columns(s: [u8; 16]) -> [u8; 16]
+    ensures { λ r. ⌜ r ≡ mix-columns s ⌝ }
+{
+    let t = below(s);
+    let u = add_blocks(s, t);
+    doubled_plus(u, t, below(below(u)))
+}
+
+// A round after SubBytes(), with the round key k.
+pub fn round(s: [u8; 16], k: [u8; 16]) -> [u8; 16]
+    ensures { λ r. ⌜ r ≡ add 16 (mix-columns (shift-rows s)) k ⌝ }
+{
+    add_blocks(mix_columns(shift_rows(s)), k)
+}
+
+// The last round after SubBytes(), which mixes no columns.
+pub fn last_round(s: [u8; 16], k: [u8; 16]) -> [u8; 16]
+    ensures { λ r. ⌜ r ≡ add 16 (shift-rows s) k ⌝ }
+{
+    add_blocks(shift_rows(s), k)
+}
+
+// 5.2: RotWord() of the last word of a round key.
+pub fn key_input(k: [u8; 16]) -> [u8; 4]
+    ensures { λ r. ⌜ r ≡ key-input k ⌝ }
+{
+    [k[13], k[14], k[15], k[12]]
+}
+
+const ROUND_CONSTANTS: [u8; 10] = [0x01, 0x02, 0x04, 0x08, 0x10, 0x20, 0x40, 0x80, 0x1b, 0x36];
+
+// The first byte of Rcon[n + 1].
+pub fn round_constant(n: usize) -> u8
+    requires { ⌜ n < 10 ⌝ }
+    ensures { λ r. ⌜ r ≡ getD round-constants n 0 ⌝ }
+{
+    ROUND_CONSTANTS[n]
+}
+
+// The round key after k, where temp is added to the first word.
+fn next_key(k: [u8; 16], temp: [u8; 4]) -> [u8; 16]
+    ensures { λ r. ⌜ r ≡ next-key k temp ⌝ }
+{
+    let a0 = k[0] ^ temp[0];
+    let a1 = k[1] ^ temp[1];
+    let a2 = k[2] ^ temp[2];
+    let a3 = k[3] ^ temp[3];
+    let b0 = k[4] ^ a0;
+    let b1 = k[5] ^ a1;
+    let b2 = k[6] ^ a2;
+    let b3 = k[7] ^ a3;
+    let c0 = k[8] ^ b0;
+    let c1 = k[9] ^ b1;
+    let c2 = k[10] ^ b2;
+    let c3 = k[11] ^ b3;
+    [
+        a0,
+        a1,
+        a2,
+        a3,
+        b0,
+        b1,
+        b2,
+        b3,
+        c0,
+        c1,
+        c2,
+        c3,
+        k[12] ^ c0,
+        k[13] ^ c1,
+        k[14] ^ c2,
+        k[15] ^ c3,
+    ]
+}
+
+// The round key after k: s is what SubWord() gives, and c the first byte of Rcon.
+pub fn key_step(k: [u8; 16], s: [u8; 4], c: u8) -> [u8; 16]
+    ensures { λ r. ⌜ r ≡ next-key k (add 4 s (c ∷ 0 ∷ 0 ∷ 0 ∷ [])) ⌝ }
+{
+    next_key(k, [s[0] ^ c, s[1], s[2], s[3]])
+}
