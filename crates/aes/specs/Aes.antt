@@ -48,13 +48,13 @@ matrix = combine columns
 unfoldable pub sbox : ℕ → ℕ
 sbox x = bitXor (matrix (inverse8 x)) 0x63
 
-abbrev pub sub-bytes : List ℕ → List ℕ
-sub-bytes s = state (λ r c. sbox (cell s r c))
+abbrev pub subBytes : List ℕ → List ℕ
+subBytes s = state (λ r c. sbox (cell s r c))
 
 -- ---- 5.1.2 ShiftRows(), (5.3): row r moves r columns to the left
 
-abbrev pub shift-rows : List ℕ → List ℕ
-shift-rows s = state (λ r c. cell s r ((c + r) % 4))
+abbrev pub shiftRows : List ℕ → List ℕ
+shiftRows s = state (λ r c. cell s r ((c + r) % 4))
 
 -- ---- 5.1.3 MixColumns(), (5.6)
 
@@ -63,84 +63,84 @@ abbrev pub mixed : ℕ → ℕ → ℕ → ℕ → ℕ
 mixed a b c d = bitXor (bitXor (mul8 2 a) (mul8 3 b)) (bitXor c d)
 
 -- row r from rows r, r + 1, r + 2 and r + 3 of its column
-abbrev pub mix-columns : List ℕ → List ℕ
-mix-columns s = state (λ r c. mixed (cell s r c) (cell s ((r + 1) % 4) c) (cell s ((r + 2) % 4) c) (cell s ((r + 3) % 4) c))
+abbrev pub mixColumns : List ℕ → List ℕ
+mixColumns s = state (λ r c. mixed (cell s r c) (cell s ((r + 1) % 4) c) (cell s ((r + 2) % 4) c) (cell s ((r + 3) % 4) c))
 
 -- ---- 5.1.4 AddRoundKey(): round key n is block n of the expanded key w
 
-abbrev pub add-round-key : List ℕ → ℕ → List ℕ → List ℕ
-add-round-key w n s = add 16 s (block w n)
+abbrev pub addRoundKey : List ℕ → ℕ → List ℕ → List ℕ
+addRoundKey w n s = add 16 s (block w n)
 
 -- ---- 5.2 Key Expansion
 
 -- the first bytes of Rcon[1] to Rcon[10]
-unfoldable pub round-constants : List ℕ
-round-constants = 0x01 ∷ 0x02 ∷ 0x04 ∷ 0x08 ∷ 0x10 ∷ 0x20 ∷ 0x40 ∷ 0x80 ∷ 0x1b ∷ 0x36 ∷ []
+unfoldable pub roundConstants : List ℕ
+roundConstants = 0x01 ∷ 0x02 ∷ 0x04 ∷ 0x08 ∷ 0x10 ∷ 0x20 ∷ 0x40 ∷ 0x80 ∷ 0x1b ∷ 0x36 ∷ []
 
 -- they are the powers of x, which is 02
-pub round-constants-are-powers : round-constants ≡ orbit 10 (mul8 2) 1
-unfolding round-constants orbit combine times xtime
-round-constants-are-powers = refl
+pub roundConstants-are-powers : roundConstants ≡ orbit 10 (mul8 2) 1
+unfolding roundConstants orbit combine times xtime
+roundConstants-are-powers = refl
 
 -- Rcon[n + 1]
 abbrev pub rcon : ℕ → List ℕ
-rcon n = getD round-constants n 0 ∷ 0 ∷ 0 ∷ 0 ∷ []
+rcon n = getD roundConstants n 0 ∷ 0 ∷ 0 ∷ 0 ∷ []
 
-abbrev pub rot-word : List ℕ → List ℕ
-rot-word w = tab (λ i. getD w ((i + 1) % 4) 0) 4
+abbrev pub rotWord : List ℕ → List ℕ
+rotWord w = tab (λ i. getD w ((i + 1) % 4) 0) 4
 
-abbrev pub sub-word : List ℕ → List ℕ
-sub-word w = tab (λ i. sbox (getD w i 0)) 4
+abbrev pub subWord : List ℕ → List ℕ
+subWord w = tab (λ i. sbox (getD w i 0)) 4
 
 -- Figure 11, four words at a time: word j of the round key after k is k's word j plus the word before it; the first is k's first plus temp.
 -- KeyExpansion.antt has the figure word by word.
-abbrev pub next-word : List ℕ → List ℕ → ℕ → List ℕ
-next-word k temp zero = add 4 (word k 0) temp
-next-word k temp (suc j) = add 4 (word k (suc j)) (next-word k temp j)
+abbrev pub nextWord : List ℕ → List ℕ → ℕ → List ℕ
+nextWord k temp zero = add 4 (word k 0) temp
+nextWord k temp (suc j) = add 4 (word k (suc j)) (nextWord k temp j)
 
-abbrev pub next-key : List ℕ → List ℕ → List ℕ
-next-key k temp = rows (next-word k temp) 4
+abbrev pub nextKey : List ℕ → List ℕ → List ℕ
+nextKey k temp = rows (nextWord k temp) 4
 
 -- RotWord() of a round key's last word, which SubWord() is given
-abbrev pub key-input : List ℕ → List ℕ
-key-input k = rot-word (word k 3)
+abbrev pub keyInput : List ℕ → List ℕ
+keyInput k = rotWord (word k 3)
 
-unfoldable pub round-key : List ℕ → ℕ → List ℕ
-round-key key zero = block key 0
-round-key key (suc n) = next-key (round-key key n) (add 4 (sub-word (key-input (round-key key n))) (rcon n))
+unfoldable pub roundKey : List ℕ → ℕ → List ℕ
+roundKey key zero = block key 0
+roundKey key (suc n) = nextKey (roundKey key n) (add 4 (subWord (keyInput (roundKey key n))) (rcon n))
 
 -- the expanded key: 44 words, which are 11 round keys
-unfoldable pub key-expansion : List ℕ → List ℕ
-key-expansion key = rows (round-key key) 11
+unfoldable pub keyExpansion : List ℕ → List ℕ
+keyExpansion key = rows (roundKey key) 11
 
 -- ---- 5.1 Cipher(), Figure 5, for an expanded key w
 
 -- the state that SubBytes() is given in round n + 1
 unfoldable pub entering : List ℕ → List ℕ → ℕ → List ℕ
-entering w plaintext zero = add-round-key w 0 plaintext
-entering w plaintext (suc n) = add-round-key w (suc n) (mix-columns (shift-rows (sub-bytes (entering w plaintext n))))
+entering w plaintext zero = addRoundKey w 0 plaintext
+entering w plaintext (suc n) = addRoundKey w (suc n) (mixColumns (shiftRows (subBytes (entering w plaintext n))))
 
 unfoldable pub cipher : List ℕ → List ℕ → List ℕ
-cipher w plaintext = add-round-key w 10 (shift-rows (sub-bytes (entering w plaintext 9)))
+cipher w plaintext = addRoundKey w 10 (shiftRows (subBytes (entering w plaintext 9)))
 
 unfoldable pub aes : List ℕ → List ℕ → List ℕ
-aes key plaintext = cipher (key-expansion key) plaintext
+aes key plaintext = cipher (keyExpansion key) plaintext
 
 -- ---- Document 01: "S-boxes 0 to 39 are the key schedule's, by round, four each in the order after the word's rotation. 40 to 199 are the
 -- rounds', bytes in block order."
 
 -- what the key schedule's S-boxes are given, for round keys `keys 0` to `keys 9`
-unfoldable pub key-inputs : (ℕ → List ℕ) → List ℕ
-key-inputs keys = rows (λ n. key-input (keys n)) 10
+unfoldable pub keyInputs : (ℕ → List ℕ) → List ℕ
+keyInputs keys = rows (λ n. keyInput (keys n)) 10
 
-unfoldable pub sbox-inputs : List ℕ → List ℕ → List ℕ
-sbox-inputs key plaintext = key-inputs (round-key key) ++ rows (entering (key-expansion key) plaintext) 10
+unfoldable pub sboxInputs : List ℕ → List ℕ → List ℕ
+sboxInputs key plaintext = keyInputs (roundKey key) ++ rows (entering (keyExpansion key) plaintext) 10
 
 -- "Some S-box input under the lent key is zero; place is the lowest S-box": the index of the first zero, or the length where there is none
-unfoldable pub first-zero : List ℕ → ℕ
-first-zero [] = 0
-first-zero (zero ∷ s) = 0
-first-zero (suc x ∷ s) = suc (first-zero s)
+unfoldable pub firstZero : List ℕ → ℕ
+firstZero [] = 0
+firstZero (zero ∷ s) = 0
+firstZero (suc x ∷ s) = suc (firstZero s)
 
 -- "A good key for a public key (plaintext 16 bytes, ciphertext 16 bytes) meets no zero S-box input and takes the plaintext to the
 -- ciphertext": of m S-boxes with these inputs, and of a cipher with this output
@@ -149,16 +149,16 @@ pub record Good (m : ℕ) (inputs output ciphertext : List ℕ) : Type 0 where
   pub encrypts : output ≡ ciphertext
 
 abbrev pub GoodKey : List ℕ → List ℕ → List ℕ → Type 0
-GoodKey plaintext ciphertext key = Good 200 (sbox-inputs key plaintext) (aes key plaintext) ciphertext
+GoodKey plaintext ciphertext key = Good 200 (sboxInputs key plaintext) (aes key plaintext) ciphertext
 
 -- ---- Document 02, slip 14: "the single-key Even-Mansour form ..: y = k + AES(x + k) under a public AES key. .. There are 160 S-boxes, the
 -- rounds' alone, from 0 in block order"
 
-unfoldable pub even-mansour : List ℕ → List ℕ → List ℕ → List ℕ
-even-mansour aes-key x key = add 16 (aes aes-key (add 16 x key)) key
+unfoldable pub evenMansour : List ℕ → List ℕ → List ℕ → List ℕ
+evenMansour aesKey x key = add 16 (aes aesKey (add 16 x key)) key
 
-unfoldable pub even-mansour-inputs : List ℕ → List ℕ → List ℕ → List ℕ
-even-mansour-inputs aes-key x key = rows (entering (key-expansion aes-key) (add 16 x key)) 10
+unfoldable pub evenMansourInputs : List ℕ → List ℕ → List ℕ → List ℕ
+evenMansourInputs aesKey x key = rows (entering (keyExpansion aesKey) (add 16 x key)) 10
 
 abbrev pub GoodEvenMansourKey : List ℕ → List ℕ → List ℕ → List ℕ → Type 0
-GoodEvenMansourKey aes-key x y key = Good 160 (even-mansour-inputs aes-key x key) (even-mansour aes-key x key) y
+GoodEvenMansourKey aesKey x y key = Good 160 (evenMansourInputs aesKey x key) (evenMansour aesKey x key) y

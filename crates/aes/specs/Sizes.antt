@@ -18,41 +18,41 @@ use Rattle.aes.specs.Aes.{
   add,
   matrix,
   sbox,
-  sub-bytes,
-  shift-rows,
-  mix-columns,
-  add-round-key,
-  round-constants,
+  subBytes,
+  shiftRows,
+  mixColumns,
+  addRoundKey,
+  roundConstants,
   rcon,
-  sub-word,
-  next-word,
-  next-key,
-  key-input,
-  round-key,
-  key-expansion,
+  subWord,
+  nextWord,
+  nextKey,
+  keyInput,
+  roundKey,
+  keyExpansion,
   entering,
   cipher,
   aes,
-  key-inputs,
-  sbox-inputs,
-  even-mansour,
-  even-mansour-inputs,
+  keyInputs,
+  sboxInputs,
+  evenMansour,
+  evenMansourInputs,
 }
 
 -- ---- lengths
 
-pub length-next-word : (k t : List ℕ) (j : ℕ) → length (next-word k t j) ≡ 4
-length-next-word k t zero = refl
-length-next-word k t (suc j) = refl
+pub length-nextWord : (k t : List ℕ) (j : ℕ) → length (nextWord k t j) ≡ 4
+length-nextWord k t zero = refl
+length-nextWord k t (suc j) = refl
 
-pub length-round-key : (key : List ℕ) (n : ℕ) → length (round-key key n) ≡ 16
-unfolding round-key
-length-round-key key zero = refl
-length-round-key key (suc n) = refl
+pub length-roundKey : (key : List ℕ) (n : ℕ) → length (roundKey key n) ≡ 16
+unfolding roundKey
+length-roundKey key zero = refl
+length-roundKey key (suc n) = refl
 
-pub length-key-expansion : (key : List ℕ) → length (key-expansion key) ≡ 176
-unfolding key-expansion
-length-key-expansion key = length-rows 16 (round-key key) 11 (length-round-key key)
+pub length-keyExpansion : (key : List ℕ) → length (keyExpansion key) ≡ 176
+unfolding keyExpansion
+length-keyExpansion key = length-rows 16 (roundKey key) 11 (λ n l. length-roundKey key n)
 
 pub length-entering : (w p : List ℕ) (n : ℕ) → length (entering w p n) ≡ 16
 unfolding entering
@@ -63,17 +63,17 @@ pub length-aes : (key p : List ℕ) → length (aes key p) ≡ 16
 unfolding aes cipher
 length-aes key p = refl
 
-pub length-sbox-inputs : (key p : List ℕ) → length (sbox-inputs key p) ≡ 200
-unfolding sbox-inputs key-inputs entering
-length-sbox-inputs key p = refl
+pub length-sboxInputs : (key p : List ℕ) → length (sboxInputs key p) ≡ 200
+unfolding sboxInputs keyInputs entering
+length-sboxInputs key p = refl
 
-pub length-even-mansour : (aes-key x key : List ℕ) → length (even-mansour aes-key x key) ≡ 16
-unfolding even-mansour
-length-even-mansour aes-key x key = refl
+pub length-evenMansour : (aesKey x key : List ℕ) → length (evenMansour aesKey x key) ≡ 16
+unfolding evenMansour
+length-evenMansour aesKey x key = refl
 
-pub length-even-mansour-inputs : (aes-key x key : List ℕ) → length (even-mansour-inputs aes-key x key) ≡ 160
-unfolding even-mansour-inputs
-length-even-mansour-inputs aes-key x key = length-rows 16 (entering _ _) 10 (length-entering _ _)
+pub length-evenMansourInputs : (aesKey x key : List ℕ) → length (evenMansourInputs aesKey x key) ≡ 160
+unfolding evenMansourInputs
+length-evenMansourInputs aesKey x key = length-rows 16 (entering _ _) 10 (λ n l. length-entering _ _ n)
 
 -- ---- bytes: numbers
 
@@ -94,82 +94,82 @@ sbox-lt x = sum-lt (matrix-lt _) (tested-bytes (0x63 ∷ []) tt .lt 0)
 -- ---- bytes: steps
 
 pub add-bytes : {a b : List ℕ} (n : ℕ) → Bytes a → Bytes b → Bytes (add n a b)
-add-bytes n p q = tab-bytes n (λ i. sum-lt (p .lt i) (q .lt i))
+add-bytes n p q = tab-bytes n (λ i l. sum-lt (p .lt i) (q .lt i))
 
 pub word-bytes : {s : List ℕ} → Bytes s → (j : ℕ) → Bytes (word s j)
-word-bytes h j = tab-bytes 4 (λ i. h .lt (j * 4 + i))
+word-bytes h j = tab-bytes 4 (λ i l. h .lt (j * 4 + i))
 
 pub block-bytes : {s : List ℕ} → Bytes s → (j : ℕ) → Bytes (block s j)
-block-bytes h j = tab-bytes 16 (λ i. h .lt (j * 16 + i))
+block-bytes h j = tab-bytes 16 (λ i l. h .lt (j * 16 + i))
 
 state-bytes : {f : ℕ → ℕ → ℕ} → ((r c : ℕ) → f r c < 256) → Bytes (state f)
-state-bytes h = tab-bytes 16 (λ i. h (i % 4) (i / 4))
+state-bytes h = tab-bytes 16 (λ i l. h (i % 4) (i / 4))
 
-pub shift-rows-bytes : {s : List ℕ} → Bytes s → Bytes (shift-rows s)
-shift-rows-bytes h = state-bytes (λ r c. h .lt (r + 4 * ((c + r) % 4)))
+pub shiftRows-bytes : {s : List ℕ} → Bytes s → Bytes (shiftRows s)
+shiftRows-bytes h = state-bytes (λ r c. h .lt (r + 4 * ((c + r) % 4)))
 
-pub mix-columns-bytes : {s : List ℕ} → Bytes s → Bytes (mix-columns s)
-mix-columns-bytes {s} h =
+pub mixColumns-bytes : {s : List ℕ} → Bytes s → Bytes (mixColumns s)
+mixColumns-bytes {s} h =
     state-bytes
     (λ r c. sum-lt (sum-lt (product-lt 2 (cell s r c)) (product-lt 3 (cell s ((r + 1) % 4) c)))
     (sum-lt (h .lt ((r + 2) % 4 + 4 * c)) (h .lt ((r + 3) % 4 + 4 * c))))
 
-pub add-round-key-bytes : {w s : List ℕ} → Bytes w → (n : ℕ) → Bytes s → Bytes (add-round-key w n s)
-add-round-key-bytes h n p = add-bytes 16 p (block-bytes h n)
+pub addRoundKey-bytes : {w s : List ℕ} → Bytes w → (n : ℕ) → Bytes s → Bytes (addRoundKey w n s)
+addRoundKey-bytes h n p = add-bytes 16 p (block-bytes h n)
 
 pub rcon-bytes : (n : ℕ) → Bytes (rcon n)
-unfolding round-constants
-rcon-bytes n = cons-bytes (tested-bytes round-constants tt .lt n) (tested-bytes (0 ∷ 0 ∷ 0 ∷ []) tt)
+unfolding roundConstants
+rcon-bytes n = cons-bytes (tested-bytes roundConstants tt .lt n) (tested-bytes (0 ∷ 0 ∷ 0 ∷ []) tt)
 
-next-word-bytes : {k t : List ℕ} → Bytes k → Bytes t → (j : ℕ) → Bytes (next-word k t j)
-next-word-bytes h p zero = add-bytes 4 (word-bytes h 0) p
-next-word-bytes h p (suc j) = add-bytes 4 (word-bytes h (suc j)) (next-word-bytes h p j)
+nextWord-bytes : {k t : List ℕ} → Bytes k → Bytes t → (j : ℕ) → Bytes (nextWord k t j)
+nextWord-bytes h p zero = add-bytes 4 (word-bytes h 0) p
+nextWord-bytes h p (suc j) = add-bytes 4 (word-bytes h (suc j)) (nextWord-bytes h p j)
 
-pub next-key-bytes : {k t : List ℕ} → Bytes k → Bytes t → Bytes (next-key k t)
-next-key-bytes h p = rows-bytes _ 4 (next-word-bytes h p)
+pub nextKey-bytes : {k t : List ℕ} → Bytes k → Bytes t → Bytes (nextKey k t)
+nextKey-bytes h p = rows-bytes _ 4 (λ j l. nextWord-bytes h p j)
 
-pub key-inputs-bytes : {keys : ℕ → List ℕ} → ((n : ℕ) → Bytes (keys n)) → Bytes (key-inputs keys)
-unfolding key-inputs
-key-inputs-bytes h = rows-bytes _ 10 (λ n. tab-bytes 4 (λ i. word-bytes (h n) 3 .lt ((i + 1) % 4)))
+pub keyInputs-bytes : {keys : ℕ → List ℕ} → ((n : ℕ) → Bytes (keys n)) → Bytes (keyInputs keys)
+unfolding keyInputs
+keyInputs-bytes h = rows-bytes _ 10 (λ n l. tab-bytes 4 (λ i m. word-bytes (h n) 3 .lt ((i + 1) % 4)))
 
 -- ---- bytes: results
 
-sub-bytes-bytes : (s : List ℕ) → Bytes (sub-bytes s)
-sub-bytes-bytes s = state-bytes (λ r c. sbox-lt (cell s r c))
+subBytes-bytes : (s : List ℕ) → Bytes (subBytes s)
+subBytes-bytes s = state-bytes (λ r c. sbox-lt (cell s r c))
 
-sub-word-bytes : (w : List ℕ) → Bytes (sub-word w)
-sub-word-bytes w = tab-bytes 4 (λ i. sbox-lt (getD w i 0))
+subWord-bytes : (w : List ℕ) → Bytes (subWord w)
+subWord-bytes w = tab-bytes 4 (λ i l. sbox-lt (getD w i 0))
 
 module _ {key : List ℕ} (h : Bytes key) where
-  round-key-bytes : (n : ℕ) → Bytes (round-key key n)
-  unfolding round-key
-  round-key-bytes zero = block-bytes h 0
-  round-key-bytes (suc n) = next-key-bytes (round-key-bytes n) (add-bytes 4 (sub-word-bytes (key-input (round-key key n))) (rcon-bytes n))
+  roundKey-bytes : (n : ℕ) → Bytes (roundKey key n)
+  unfolding roundKey
+  roundKey-bytes zero = block-bytes h 0
+  roundKey-bytes (suc n) = nextKey-bytes (roundKey-bytes n) (add-bytes 4 (subWord-bytes (keyInput (roundKey key n))) (rcon-bytes n))
 
-  pub key-expansion-bytes : Bytes (key-expansion key)
-  unfolding key-expansion
-  key-expansion-bytes = rows-bytes _ 11 round-key-bytes
+  pub keyExpansion-bytes : Bytes (keyExpansion key)
+  unfolding keyExpansion
+  keyExpansion-bytes = rows-bytes _ 11 (λ n l. roundKey-bytes n)
 
 entering-bytes : {w p : List ℕ} → Bytes w → Bytes p → (n : ℕ) → Bytes (entering w p n)
 unfolding entering
-entering-bytes hw hp zero = add-round-key-bytes hw 0 hp
+entering-bytes hw hp zero = addRoundKey-bytes hw 0 hp
 entering-bytes {w} {p} hw hp (suc n) =
-    add-round-key-bytes hw (suc n) (mix-columns-bytes (shift-rows-bytes (sub-bytes-bytes (entering w p n))))
+    addRoundKey-bytes hw (suc n) (mixColumns-bytes (shiftRows-bytes (subBytes-bytes (entering w p n))))
 
 module _ {key : List ℕ} (p : List ℕ) (h : Bytes key) where
   pub aes-bytes : Bytes (aes key p)
   unfolding aes cipher
-  aes-bytes = add-round-key-bytes (key-expansion-bytes h) 10 (shift-rows-bytes (sub-bytes-bytes (entering (key-expansion key) p 9)))
+  aes-bytes = addRoundKey-bytes (keyExpansion-bytes h) 10 (shiftRows-bytes (subBytes-bytes (entering (keyExpansion key) p 9)))
 
-  pub sbox-inputs-bytes : Bytes p → Bytes (sbox-inputs key p)
-  unfolding sbox-inputs
-  sbox-inputs-bytes hp = append-bytes (key-inputs-bytes (round-key-bytes h)) (rows-bytes _ 10 (entering-bytes (key-expansion-bytes h) hp))
+  pub sboxInputs-bytes : Bytes p → Bytes (sboxInputs key p)
+  unfolding sboxInputs
+  sboxInputs-bytes hp = append-bytes (keyInputs-bytes (roundKey-bytes h)) (rows-bytes _ 10 (λ n l. entering-bytes (keyExpansion-bytes h) hp n))
 
-module _ {aes-key key : List ℕ} (x : List ℕ) (ha : Bytes aes-key) (hk : Bytes key) where
-  pub even-mansour-bytes : Bytes (even-mansour aes-key x key)
-  unfolding even-mansour
-  even-mansour-bytes = add-bytes 16 (aes-bytes _ ha) hk
+module _ {aesKey key : List ℕ} (x : List ℕ) (ha : Bytes aesKey) (hk : Bytes key) where
+  pub evenMansour-bytes : Bytes (evenMansour aesKey x key)
+  unfolding evenMansour
+  evenMansour-bytes = add-bytes 16 (aes-bytes _ ha) hk
 
-  pub even-mansour-inputs-bytes : Bytes x → Bytes (even-mansour-inputs aes-key x key)
-  unfolding even-mansour-inputs
-  even-mansour-inputs-bytes hx = rows-bytes _ 10 (entering-bytes (key-expansion-bytes ha) (add-bytes 16 hx hk))
+  pub evenMansourInputs-bytes : Bytes x → Bytes (evenMansourInputs aesKey x key)
+  unfolding evenMansourInputs
+  evenMansourInputs-bytes hx = rows-bytes _ 10 (λ n l. entering-bytes (keyExpansion-bytes ha) (add-bytes 16 hx hk) n)

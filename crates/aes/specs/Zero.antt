@@ -7,51 +7,51 @@ use native.Mathlib.Nat.{suc-ne-zero}
 use native.Mathlib.Omega.{arith}
 use lib.ListN.{length, getD, drop, drop-of-length-le}
 use lib.Seq.{drop-cons}
-use Rattle.aes.specs.Aes.{first-zero}
+use Rattle.aes.specs.Aes.{firstZero}
 
-pub first-zero-le : (s : List ℕ) → first-zero s ≤ length s
-unfolding first-zero
-first-zero-le [] = omega arith
-first-zero-le (zero ∷ s) = omega arith
-first-zero-le (suc x ∷ s) = omega (arith, first-zero-le s)
+pub firstZero-le : (s : List ℕ) → firstZero s ≤ length s
+unfolding firstZero
+firstZero-le [] = omega arith
+firstZero-le (zero ∷ s) = omega arith
+firstZero-le (suc x ∷ s) = omega (arith, firstZero-le s)
 
-pub first-zero-before : (s : List ℕ) (i : ℕ) → i < first-zero s → getD s i 0 ≢ 0
-unfolding first-zero
-first-zero-before [] i h = absurd (omega arith)
-first-zero-before (zero ∷ s) i h = absurd (omega arith)
-first-zero-before (suc x ∷ s) zero h = suc-ne-zero x
-first-zero-before (suc x ∷ s) (suc i) h = first-zero-before s i (omega arith)
+pub firstZero-before : (s : List ℕ) (i : ℕ) → i < firstZero s → getD s i 0 ≢ 0
+unfolding firstZero
+firstZero-before [] i h = absurd (omega arith)
+firstZero-before (zero ∷ s) i h = absurd (omega arith)
+firstZero-before (suc x ∷ s) zero h = suc-ne-zero x
+firstZero-before (suc x ∷ s) (suc i) h = firstZero-before s i (omega arith)
 
-pub first-zero-at : (s : List ℕ) → first-zero s < length s → getD s (first-zero s) 0 ≡ 0
-unfolding first-zero
-first-zero-at [] h = refl
-first-zero-at (zero ∷ s) h = refl
-first-zero-at (suc x ∷ s) h = first-zero-at s (omega arith)
+pub firstZero-at : (s : List ℕ) → firstZero s < length s → getD s (firstZero s) 0 ≡ 0
+unfolding firstZero
+firstZero-at [] h = refl
+firstZero-at (zero ∷ s) h = refl
+firstZero-at (suc x ∷ s) h = firstZero-at s (omega arith)
 
-pub first-zero-none : (s : List ℕ) → first-zero s ≡ length s → (i : ℕ) → i < length s → getD s i 0 ≢ 0
-first-zero-none s e i h = first-zero-before s i (rw e h)
+pub firstZero-none : (s : List ℕ) → firstZero s ≡ length s → (i : ℕ) → i < length s → getD s i 0 ≢ 0
+firstZero-none s e i h = firstZero-before s i (rw e h)
 
-pub first-zero-length : (s : List ℕ) → ((i : ℕ) → i < length s → getD s i 0 ≢ 0) → first-zero s ≡ length s
-unfolding first-zero
-first-zero-length [] h = refl
-first-zero-length (zero ∷ s) h = absurd (h 0 (omega arith) refl)
-first-zero-length (suc x ∷ s) h = ap suc (first-zero-length s (λ i l. h (suc i) (omega arith)))
+pub firstZero-length : (s : List ℕ) → ((i : ℕ) → i < length s → getD s i 0 ≢ 0) → firstZero s ≡ length s
+unfolding firstZero
+firstZero-length [] h = refl
+firstZero-length (zero ∷ s) h = absurd (h 0 (omega arith) refl)
+firstZero-length (suc x ∷ s) h = ap suc (firstZero-length s (λ i l. h (suc i) (omega arith)))
 
 -- ---- for a loop: at element i, and past the end
 
 module _ (s : List ℕ) (i : ℕ) where
-  pub first-zero-here : i < length s → getD s i 0 ≡ 0 → first-zero (drop i s) ≡ 0
-  unfolding first-zero
-  first-zero-here h e = ap first-zero (drop-cons s i 0 h) ∙ ap (λ (x : ℕ). first-zero (x ∷ drop (suc i) s)) e
+  pub firstZero-here : i < length s → getD s i 0 ≡ 0 → firstZero (drop i s) ≡ 0
+  unfolding firstZero
+  firstZero-here h e = ap firstZero (drop-cons s i 0 h) ∙ ap (λ (x : ℕ). firstZero (x ∷ drop (suc i) s)) e
 
-  pub first-zero-later : i < length s → getD s i 0 ≢ 0 → first-zero (drop i s) ≡ suc (first-zero (drop (suc i) s))
-  unfolding first-zero
-  first-zero-later h ne = ap first-zero (drop-cons s i 0 h) ∙ other (getD s i 0) ne
+  pub firstZero-later : i < length s → getD s i 0 ≢ 0 → firstZero (drop i s) ≡ suc (firstZero (drop (suc i) s))
+  unfolding firstZero
+  firstZero-later h ne = ap firstZero (drop-cons s i 0 h) ∙ other (getD s i 0) ne
     where
-      other : (x : ℕ) → x ≢ 0 → first-zero (x ∷ drop (suc i) s) ≡ suc (first-zero (drop (suc i) s))
+      other : (x : ℕ) → x ≢ 0 → firstZero (x ∷ drop (suc i) s) ≡ suc (firstZero (drop (suc i) s))
       other zero ne = absurd (ne refl)
       other (suc x) ne = refl
 
-  pub first-zero-end : length s ≤ i → first-zero (drop i s) ≡ 0
-  unfolding first-zero
-  first-zero-end h = ap first-zero (drop-of-length-le s h)
+  pub firstZero-end : length s ≤ i → firstZero (drop i s) ≡ 0
+  unfolding firstZero
+  firstZero-end h = ap firstZero (drop-of-length-le s h)

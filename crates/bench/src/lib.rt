@@ -17,5 +17,5 @@ pub extern "C" fn bench_permute(s: &mut [u64; 25])
 pub extern "C" fn bench_digest(src: &[u8], out: &mut [u8])
     ensures { λ _. ⌜ now (out .exit) ≡ shake128 (now (src .entry)) (length (now (out .entry))) ⌝ }
 {
-    shake::digest(src, out);
+    sponge::digest(src, out);
 }

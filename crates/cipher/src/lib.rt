@@ -5,8 +5,8 @@ ghost use Prim.Native.Nat.{_<_};
 ghost use lib.ListN.{length};
 ghost use Rattle.slices.specs.Lists.{rows};
 ghost use Rattle.field.specs.Byte.{inverse8};
-ghost use Rattle.aes.specs.Aes.{sbox, add, rcon, sub-word, next-key, key-input, round-key, key-expansion, entering, cipher, aes};
-ghost use Rattle.aes.specs.Aes.{key-inputs, sbox-inputs, first-zero};
+ghost use Rattle.aes.specs.Aes.{sbox, add, rcon, subWord, nextKey, keyInput, roundKey, keyExpansion, entering, cipher, aes};
+ghost use Rattle.aes.specs.Aes.{keyInputs, sboxInputs, firstZero};
 
 // Puts its inverse in place of each byte, 0 for 0.
 pub fn invert(s: &mut [u8])
@@ -28,7 +28,7 @@ fn substitute(s: &mut [u8])
 // The round key after round key n, which is k.
 fn next_round_key(k: [u8; 16], n: usize) -> [u8; 16]
     requires { ⌜ n < 10 ⌝ }
-    ensures { λ r. ⌜ r ≡ next-key k (add 4 (sub-word (key-input k)) (rcon n)) ⌝ }
+    ensures { λ r. ⌜ r ≡ nextKey k (add 4 (subWord (keyInput k)) (rcon n)) ⌝ }
 {
     let mut s = steps::key_input(k);
     substitute(&mut s);
@@ -39,8 +39,8 @@ fn next_round_key(k: [u8; 16], n: usize) -> [u8; 16]
 pub fn expand(key: &[u8], inputs: &mut [u8]) -> [u8; 176]
     requires { ⌜ length (now key) ≡ 16 ⌝ }
     requires { ⌜ length (now inputs) ≡ 40 ⌝ }
-    ensures { λ r. ⌜ r ≡ key-expansion (now (key .entry)) ⌝ }
-    ensures { λ _. ⌜ now (inputs .exit) ≡ key-inputs (round-key (now (key .entry))) ⌝ }
+    ensures { λ r. ⌜ r ≡ keyExpansion (now (key .entry)) ⌝ }
+    ensures { λ _. ⌜ now (inputs .exit) ≡ keyInputs (roundKey (now (key .entry))) ⌝ }
 {
     let mut w = [0u8; 176];
     let mut k = steps::block_at(key, 0);
@@ -78,7 +78,7 @@ pub fn encrypt(key: &[u8], plaintext: &[u8], inputs: &mut [u8]) -> [u8; 16]
     requires { ⌜ length (now plaintext) ≡ 16 ⌝ }
     requires { ⌜ length (now inputs) ≡ 200 ⌝ }
     ensures { λ r. ⌜ r ≡ aes (now (key .entry)) (now (plaintext .entry)) ⌝ }
-    ensures { λ _. ⌜ now (inputs .exit) ≡ sbox-inputs (now (key .entry)) (now (plaintext .entry)) ⌝ }
+    ensures { λ _. ⌜ now (inputs .exit) ≡ sboxInputs (now (key .entry)) (now (plaintext .entry)) ⌝ }
 {
     let w = expand(key, &mut inputs[0..40]);
     encrypt_rounds(&w, plaintext, &mut inputs[40..])
@@ -86,7 +86,7 @@ pub fn encrypt(key: &[u8], plaintext: &[u8], inputs: &mut [u8]) -> [u8; 16]
 
 // The index of the first zero, or the length where there is none.
 pub fn first_zero(s: &[u8]) -> usize
-    ensures { λ r. ⌜ r ≡ first-zero (now (s .entry)) ⌝ }
+    ensures { λ r. ⌜ r ≡ firstZero (now (s .entry)) ⌝ }
 {
     for i in 0..s.len() {
         if s[i] == 0 {

@@ -8,7 +8,7 @@ use lib.Bits.{bitXor}
 use lib.ListN.{getD, drop}
 use Rattle.slices.specs.Lists.{tab, rows, zipXor}
 use Rattle.field.specs.Byte.{mul8, inverse8}
-use Rattle.aes.specs.Aes.{add, word, block, matrix, shift-rows, mix-columns, add-round-key, rcon, next-key, key-inputs}
+use Rattle.aes.specs.Aes.{add, word, block, matrix, shiftRows, mixColumns, addRoundKey, rcon, nextKey, keyInputs}
 
 -- `one` is the share of the number 1: 1 for party 0, and 0 for the others
 pub record Share : Type 0 where
@@ -30,54 +30,54 @@ unfoldable pub affine : ℕ → ℕ → ℕ
 affine one y = bitXor (matrix y) (mul8 one 0x63)
 
 -- what m S-boxes give
-unfoldable pub sbox-outputs : ℕ → ℕ → List ℕ → List ℕ
-sbox-outputs m one inverses = tab (λ l. affine one (getD inverses l 0)) m
+unfoldable pub sboxOutputs : ℕ → ℕ → List ℕ → List ℕ
+sboxOutputs m one inverses = tab (λ l. affine one (getD inverses l 0)) m
 
 -- ---- the key schedule, where the S-boxes give z
 
-unfoldable pub round-key-share : ℕ → List ℕ → List ℕ → ℕ → List ℕ
-round-key-share one key z zero = block key 0
-round-key-share one key z (suc n) = next-key (round-key-share one key z n) (add 4 (word z n) (public one 4 (rcon n)))
+unfoldable pub roundKeyShare : ℕ → List ℕ → List ℕ → ℕ → List ℕ
+roundKeyShare one key z zero = block key 0
+roundKeyShare one key z (suc n) = nextKey (roundKeyShare one key z n) (add 4 (word z n) (public one 4 (rcon n)))
 
-unfoldable pub expansion-share : ℕ → List ℕ → List ℕ → List ℕ
-expansion-share one key z = rows (round-key-share one key z) 11
+unfoldable pub expansionShare : ℕ → List ℕ → List ℕ → List ℕ
+expansionShare one key z = rows (roundKeyShare one key z) 11
 
 -- ---- the rounds, for shares of an expanded key w and of the plaintext p, where the S-boxes give z
 
-unfoldable pub entering-share : List ℕ → List ℕ → List ℕ → ℕ → List ℕ
-entering-share w p z zero = add-round-key w 0 p
-entering-share w p z (suc n) = add-round-key w (suc n) (mix-columns (shift-rows (block z n)))
+unfoldable pub enteringShare : List ℕ → List ℕ → List ℕ → ℕ → List ℕ
+enteringShare w p z zero = addRoundKey w 0 p
+enteringShare w p z (suc n) = addRoundKey w (suc n) (mixColumns (shiftRows (block z n)))
 
-unfoldable pub cipher-share : List ℕ → List ℕ → List ℕ
-cipher-share w z = add-round-key w 10 (shift-rows (block z 9))
+unfoldable pub cipherShare : List ℕ → List ℕ → List ℕ
+cipherShare w z = addRoundKey w 10 (shiftRows (block z 9))
 
 -- ---- AES: 40 S-boxes of the key schedule, and then 160 of the rounds
 
 abbrev pub outputs : Share → List ℕ
-outputs s = sbox-outputs 200 (s .one) (s .inverses)
+outputs s = sboxOutputs 200 (s .one) (s .inverses)
 
 abbrev pub expanded : Share → List ℕ
-expanded s = expansion-share (s .one) (s .key) (outputs s)
+expanded s = expansionShare (s .one) (s .key) (outputs s)
 
-unfoldable pub input-shares : List ℕ → Share → List ℕ
-input-shares plaintext s =
-    key-inputs (round-key-share (s .one) (s .key) (outputs s))
-    ++ rows (entering-share (expanded s) (public (s .one) 16 plaintext) (drop 40 (outputs s))) 10
+unfoldable pub inputShares : List ℕ → Share → List ℕ
+inputShares plaintext s =
+    keyInputs (roundKeyShare (s .one) (s .key) (outputs s))
+    ++ rows (enteringShare (expanded s) (public (s .one) 16 plaintext) (drop 40 (outputs s))) 10
 
-unfoldable pub output-share : Share → List ℕ
-output-share s = cipher-share (expanded s) (drop 40 (outputs s))
+unfoldable pub outputShare : Share → List ℕ
+outputShare s = cipherShare (expanded s) (drop 40 (outputs s))
 
 -- ---- the Even-Mansour form: 160 S-boxes of the rounds, a public expanded key w, and the key's share added before and after
 
-abbrev pub even-mansour-outputs : Share → List ℕ
-even-mansour-outputs s = sbox-outputs 160 (s .one) (s .inverses)
+abbrev pub evenMansourOutputs : Share → List ℕ
+evenMansourOutputs s = sboxOutputs 160 (s .one) (s .inverses)
 
-unfoldable pub even-mansour-input-shares : List ℕ → List ℕ → Share → List ℕ
-even-mansour-input-shares w x s =
-    rows (entering-share (public (s .one) 176 w) (add 16 (public (s .one) 16 x) (s .key)) (even-mansour-outputs s)) 10
+unfoldable pub evenMansourInputShares : List ℕ → List ℕ → Share → List ℕ
+evenMansourInputShares w x s =
+    rows (enteringShare (public (s .one) 176 w) (add 16 (public (s .one) 16 x) (s .key)) (evenMansourOutputs s)) 10
 
-unfoldable pub even-mansour-output-share : List ℕ → Share → List ℕ
-even-mansour-output-share w s = add 16 (cipher-share (public (s .one) 176 w) (even-mansour-outputs s)) (s .key)
+unfoldable pub evenMansourOutputShare : List ℕ → Share → List ℕ
+evenMansourOutputShare w s = add 16 (cipherShare (public (s .one) 176 w) (evenMansourOutputs s)) (s .key)
 
 -- ---- parties
 
@@ -97,5 +97,5 @@ abbrev pub Inverted : ℕ → List ℕ → List ℕ → Type 0
 Inverted m x y = (l : ℕ) → l < m → getD y l 0 ≡ inverse8 (getD x l 0)
 
 -- the first m elements of x times those of y are 1
-abbrev pub AllOne : ℕ → List ℕ → List ℕ → Type 0
-AllOne m x y = (l : ℕ) → l < m → mul8 (getD x l 0) (getD y l 0) ≡ 1
+abbrev pub ProductsOne : ℕ → List ℕ → List ℕ → Type 0
+ProductsOne m x y = (l : ℕ) → l < m → mul8 (getD x l 0) (getD y l 0) ≡ 1

@@ -12,8 +12,8 @@ use Rattle.slices.specs.Xor.{xor-swap}
 use Rattle.field.specs.Linear.{Additive, combined}
 use Rattle.field.specs.Field.{adds-l}
 use Rattle.field.specs.Byte.{mul8, field8}
-use Rattle.aes.specs.Aes.{add, matrix, state, word, block, shift-rows, mix-columns, add-round-key, rcon, next-word, key-inputs}
-use Rattle.aes.specs.Sizes.{length-next-word}
+use Rattle.aes.specs.Aes.{add, matrix, state, word, block, shiftRows, mixColumns, addRoundKey, rcon, nextWord, keyInputs}
+use Rattle.aes.specs.Sizes.{length-nextWord}
 use Rattle.circuit.specs.Circuit.{
   Share,
   share,
@@ -21,18 +21,18 @@ use Rattle.circuit.specs.Circuit.{
   plus,
   public,
   affine,
-  sbox-outputs,
-  round-key-share,
-  expansion-share,
+  sboxOutputs,
+  roundKeyShare,
+  expansionShare,
   expanded,
-  entering-share,
-  cipher-share,
-  input-shares,
-  output-share,
-  even-mansour-input-shares,
-  even-mansour-output-share,
+  enteringShare,
+  cipherShare,
+  inputShares,
+  outputShare,
+  evenMansourInputShares,
+  evenMansourOutputShare,
 }
-use Rattle.circuit.specs.Sizes.{length-round-key-share, length-entering-share}
+use Rattle.circuit.specs.Sizes.{length-roundKeyShare, length-enteringShare}
 
 -- a number, and a list of numbers, that depend on a share
 record Linear₁ (f : Share → ℕ) : Type 0 where
@@ -72,7 +72,7 @@ stacked : {f : Share → ℕ → List ℕ} (k n : ℕ) → ((s : Share) (j : ℕ
     → Linear (λ s. rows (f s) n)
 unfolding zipXor
 stacked k zero l h = record { adds = λ s t. refl }
-stacked {f} k (suc n) l h = append (n * k) (λ s. length-rows k (f s) n (l s)) (stacked k n l h) (h n)
+stacked {f} k (suc n) l h = append (n * k) (λ s. length-rows k (f s) n (λ j m. l s j)) (stacked k n l h) (h n)
 
 dropped : {f : Share → List ℕ} (n : ℕ) → Linear f → Linear (λ s. drop n (f s))
 dropped {f} n h = record { adds = λ s t. ap (drop n) (h .adds s t) ∙ drop-zip n (f s) (f t) }
@@ -88,8 +88,8 @@ inverses-linear = record { adds = λ s t. refl }
 public-linear : (n : ℕ) (v : List ℕ) → Linear (λ s. public (s .one) n v)
 public-linear n v = listed n (λ i. constant (getD v i 0))
 
-outputs-linear : (m : ℕ) → Linear (λ s. sbox-outputs m (s .one) (s .inverses))
-unfolding sbox-outputs affine matrix
+outputs-linear : (m : ℕ) → Linear (λ s. sboxOutputs m (s .one) (s .inverses))
+unfolding sboxOutputs affine matrix
 outputs-linear m = listed m (λ l. through matrix (combined _) (at inverses-linear l) ⊞ constant 0x63)
 
 add-linear : {f g : Share → List ℕ} (n : ℕ) → Linear f → Linear g → Linear (λ s. add n (f s) (g s))
@@ -104,66 +104,66 @@ block-linear h n = listed 16 (λ i. at h (n * 16 + i))
 state-linear : {g : Share → ℕ → ℕ → ℕ} → ((r c : ℕ) → Linear₁ (λ s. g s r c)) → Linear (λ s. state (g s))
 state-linear h = listed 16 (λ i. h (i % 4) (i / 4))
 
-shift-rows-linear : {f : Share → List ℕ} → Linear f → Linear (λ s. shift-rows (f s))
-shift-rows-linear h = state-linear (λ r c. at h (r + 4 * ((c + r) % 4)))
+shiftRows-linear : {f : Share → List ℕ} → Linear f → Linear (λ s. shiftRows (f s))
+shiftRows-linear h = state-linear (λ r c. at h (r + 4 * ((c + r) % 4)))
 
-mix-columns-linear : {f : Share → List ℕ} → Linear f → Linear (λ s. mix-columns (f s))
-mix-columns-linear h =
+mixColumns-linear : {f : Share → List ℕ} → Linear f → Linear (λ s. mixColumns (f s))
+mixColumns-linear h =
     state-linear
     (λ r c. times 2 (at h (r + 4 * c)) ⊞ times 3 (at h ((r + 1) % 4 + 4 * c)) ⊞ (at h ((r + 2) % 4 + 4 * c) ⊞ at h ((r + 3) % 4 + 4 * c)))
 
-add-round-key-linear : {w f : Share → List ℕ} → Linear w → (n : ℕ) → Linear f → Linear (λ s. add-round-key (w s) n (f s))
-add-round-key-linear hw n h = add-linear 16 h (block-linear hw n)
+addRoundKey-linear : {w f : Share → List ℕ} → Linear w → (n : ℕ) → Linear f → Linear (λ s. addRoundKey (w s) n (f s))
+addRoundKey-linear hw n h = add-linear 16 h (block-linear hw n)
 
-next-word-linear : {k t : Share → List ℕ} → Linear k → Linear t → (j : ℕ) → Linear (λ s. next-word (k s) (t s) j)
-next-word-linear hk ht zero = add-linear 4 (word-linear hk 0) ht
-next-word-linear hk ht (suc j) = add-linear 4 (word-linear hk (suc j)) (next-word-linear hk ht j)
+nextWord-linear : {k t : Share → List ℕ} → Linear k → Linear t → (j : ℕ) → Linear (λ s. nextWord (k s) (t s) j)
+nextWord-linear hk ht zero = add-linear 4 (word-linear hk 0) ht
+nextWord-linear hk ht (suc j) = add-linear 4 (word-linear hk (suc j)) (nextWord-linear hk ht j)
 
 -- ---- the circuit
 
-round-key-linear : {z : Share → List ℕ} → Linear z → (n : ℕ) → Linear (λ s. round-key-share (s .one) (s .key) (z s) n)
-unfolding round-key-share
-round-key-linear hz zero = block-linear key-linear 0
-round-key-linear hz (suc n) =
-    stacked 4 4 (λ s. length-next-word _ _)
-    (next-word-linear (round-key-linear hz n) (add-linear 4 (word-linear hz n) (public-linear 4 (rcon n))))
+roundKey-linear : {z : Share → List ℕ} → Linear z → (n : ℕ) → Linear (λ s. roundKeyShare (s .one) (s .key) (z s) n)
+unfolding roundKeyShare
+roundKey-linear hz zero = block-linear key-linear 0
+roundKey-linear hz (suc n) =
+    stacked 4 4 (λ s. length-nextWord _ _)
+    (nextWord-linear (roundKey-linear hz n) (add-linear 4 (word-linear hz n) (public-linear 4 (rcon n))))
 
 expanded-linear : Linear expanded
-unfolding expansion-share
-expanded-linear = stacked 16 11 (λ s. length-round-key-share (s .one) (s .key) _) (round-key-linear (outputs-linear 200))
+unfolding expansionShare
+expanded-linear = stacked 16 11 (λ s. length-roundKeyShare (s .one) (s .key) _) (roundKey-linear (outputs-linear 200))
 
 module _ {w p z : Share → List ℕ} (hw : Linear w) (hp : Linear p) (hz : Linear z) where
-  entering-linear : (n : ℕ) → Linear (λ s. entering-share (w s) (p s) (z s) n)
-  unfolding entering-share
-  entering-linear zero = add-round-key-linear hw 0 hp
-  entering-linear (suc n) = add-round-key-linear hw (suc n) (mix-columns-linear (shift-rows-linear (block-linear hz n)))
+  entering-linear : (n : ℕ) → Linear (λ s. enteringShare (w s) (p s) (z s) n)
+  unfolding enteringShare
+  entering-linear zero = addRoundKey-linear hw 0 hp
+  entering-linear (suc n) = addRoundKey-linear hw (suc n) (mixColumns-linear (shiftRows-linear (block-linear hz n)))
 
-  rounds-linear : Linear (λ s. rows (entering-share (w s) (p s) (z s)) 10)
-  rounds-linear = stacked 16 10 (λ s. length-entering-share (w s) (p s) (z s)) entering-linear
+  rounds-linear : Linear (λ s. rows (enteringShare (w s) (p s) (z s)) 10)
+  rounds-linear = stacked 16 10 (λ s. length-enteringShare (w s) (p s) (z s)) entering-linear
 
-cipher-linear : {w z : Share → List ℕ} → Linear w → Linear z → Linear (λ s. cipher-share (w s) (z s))
-unfolding cipher-share
-cipher-linear hw hz = add-round-key-linear hw 10 (shift-rows-linear (block-linear hz 9))
+cipher-linear : {w z : Share → List ℕ} → Linear w → Linear z → Linear (λ s. cipherShare (w s) (z s))
+unfolding cipherShare
+cipher-linear hw hz = addRoundKey-linear hw 10 (shiftRows-linear (block-linear hz 9))
 
-pub input-shares-linear : (plaintext : List ℕ) → Linear (input-shares plaintext)
-unfolding input-shares key-inputs
-input-shares-linear plaintext =
+pub inputShares-linear : (plaintext : List ℕ) → Linear (inputShares plaintext)
+unfolding inputShares keyInputs
+inputShares-linear plaintext =
     append 40 (λ s. refl)
-    (stacked 4 10 (λ s j. refl) (λ j. listed 4 (λ i. at (word-linear (round-key-linear (outputs-linear 200) j) 3) ((i + 1) % 4))))
+    (stacked 4 10 (λ s j. refl) (λ j. listed 4 (λ i. at (word-linear (roundKey-linear (outputs-linear 200) j) 3) ((i + 1) % 4))))
     (rounds-linear expanded-linear (public-linear 16 plaintext) (dropped 40 (outputs-linear 200)))
 
-pub output-share-linear : Linear output-share
-unfolding output-share
-output-share-linear = cipher-linear expanded-linear (dropped 40 (outputs-linear 200))
+pub outputShare-linear : Linear outputShare
+unfolding outputShare
+outputShare-linear = cipher-linear expanded-linear (dropped 40 (outputs-linear 200))
 
-pub even-mansour-input-shares-linear : (w x : List ℕ) → Linear (even-mansour-input-shares w x)
-unfolding even-mansour-input-shares
-even-mansour-input-shares-linear w x =
+pub evenMansourInputShares-linear : (w x : List ℕ) → Linear (evenMansourInputShares w x)
+unfolding evenMansourInputShares
+evenMansourInputShares-linear w x =
     rounds-linear (public-linear 176 w) (add-linear 16 (public-linear 16 x) key-linear) (outputs-linear 160)
 
-pub even-mansour-output-share-linear : (w : List ℕ) → Linear (even-mansour-output-share w)
-unfolding even-mansour-output-share
-even-mansour-output-share-linear w = add-linear 16 (cipher-linear (public-linear 176 w) (outputs-linear 160)) key-linear
+pub evenMansourOutputShare-linear : (w : List ℕ) → Linear (evenMansourOutputShare w)
+unfolding evenMansourOutputShare
+evenMansourOutputShare-linear w = add-linear 16 (cipher-linear (public-linear 176 w) (outputs-linear 160)) key-linear
 
 -- ---- any number of parties: 0 to n
 

@@ -11,7 +11,7 @@ use Rattle.slices.specs.Sums.{sum-bytes}
 use Rattle.field.specs.Field.{inverse-unique, zero-l}
 use Rattle.field.specs.Byte.{mul8, inverse8, field8}
 use Rattle.aes.specs.Aes.{Good}
-use Rattle.circuit.specs.Circuit.{Share, share, party, Inverted, AllOne}
+use Rattle.circuit.specs.Circuit.{Share, share, party, Inverted, ProductsOne}
 use Rattle.circuit.specs.Linear.{Linear, parties-linear}
 
 -- a circuit's inputs x and output r are the cipher's
@@ -44,7 +44,7 @@ module _ {m : ℕ} {given encrypted : List ℕ → List ℕ} {inputs output : Sh
     x-bytes : Bytes (inputs (share 1 key y))
     x-bytes = C .inputs-sized (share 1 key y) hk .bytes
 
-    pub products-good : Bytes y → AllOne m (inputs (share 1 key y)) y → output (share 1 key y) ≡ ciphertext
+    pub products-good : Bytes y → ProductsOne m (inputs (share 1 key y)) y → output (share 1 key y) ≡ ciphertext
         → Good m (given key) (encrypted key) ciphertext
     products-good hy h e =
         let s = C .own-inverses key y (λ l k. inverse-unique 8 mul8 field8 _ _ (x-bytes .lt l) (hy .lt l) (field8 .ring .comm _ _ ∙ h l k)) in
@@ -56,7 +56,7 @@ module _ {m : ℕ} {given encrypted : List ℕ → List ℕ} {inputs output : Sh
         }
 
     pub good-products : Good m (given key) (encrypted key) ciphertext → Inverted m (given key) y
-        → AllOne m (inputs (share 1 key y)) y × (output (share 1 key y) ≡ ciphertext)
+        → ProductsOne m (inputs (share 1 key y)) y × (output (share 1 key y) ≡ ciphertext)
     good-products g i =
         let s = C .true-inverses key y i in
         let at : (l : ℕ) → getD (inputs (share 1 key y)) l 0 ≡ getD (given key) l 0 = λ l. ap (λ (u : List ℕ). getD u l 0) (s .same-inputs) in (
@@ -80,15 +80,15 @@ module _ {m : ℕ} {given encrypted : List ℕ → List ℕ} {inputs output : Sh
     output-adds : output (share 1 key y) ≡ sumXor (suc n) (λ i. output (party i (keys i) (inverses i)))
     output-adds = parties-linear (C .output-linear) n keys inverses
 
-    pub parties-good : ((i : ℕ) → i < suc n → Bytes (inverses i)) → AllOne m (sumXor (suc n) (λ i. inputs (party i (keys i) (inverses i)))) y
+    pub parties-good : ((i : ℕ) → i < suc n → Bytes (inverses i)) → ProductsOne m (sumXor (suc n) (λ i. inputs (party i (keys i) (inverses i)))) y
         → sumXor (suc n) (λ i. output (party i (keys i) (inverses i))) ≡ ciphertext → Good m (given key) (encrypted key) ciphertext
     parties-good hy h e =
-        products-good key y (sum-bytes (suc n) hk) (sum-bytes (suc n) hy) (subst (λ (x : List ℕ). AllOne m x y) (sym inputs-add) h)
+        products-good key y (sum-bytes (suc n) hk) (sum-bytes (suc n) hy) (subst (λ (x : List ℕ). ProductsOne m x y) (sym inputs-add) h)
         (output-adds ∙ e)
 
     pub good-parties : Good m (given key) (encrypted key) ciphertext → Inverted m (given key) y
-        → AllOne m (sumXor (suc n) (λ i. inputs (party i (keys i) (inverses i)))) y
+        → ProductsOne m (sumXor (suc n) (λ i. inputs (party i (keys i) (inverses i)))) y
         × (sumXor (suc n) (λ i. output (party i (keys i) (inverses i))) ≡ ciphertext)
     good-parties g i =
         let p = good-products key y (sum-bytes (suc n) hk) g i in
-        (subst (λ (x : List ℕ). AllOne m x y) inputs-add (p .0), sym output-adds ∙ p .1)
+        (subst (λ (x : List ℕ). ProductsOne m x y) inputs-add (p .0), sym output-adds ∙ p .1)

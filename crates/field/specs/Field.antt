@@ -35,12 +35,12 @@ iterate (suc n) f a = f (iterate n f a)
 module _ (w : ℕ) (_·_ : ℕ → ℕ → ℕ) where
   infixl 70 _·_
   -- a^(2^n - 1): each turn squares and takes one factor a more
-  unfoldable pub ones-power : ℕ → ℕ → ℕ
-  ones-power n a = iterate n (λ x. x · x · a) 1
+  unfoldable pub onesPower : ℕ → ℕ → ℕ
+  onesPower n a = iterate n (λ x. x · x · a) 1
 
   -- a^(2^w - 2): the inverse of a, and 0 of 0
   unfoldable pub inverse : ℕ → ℕ
-  inverse a = ones-power (pred w) a · ones-power (pred w) a
+  inverse a = onesPower (pred w) a · onesPower (pred w) a
 
   -- the laws of a field
   pub record IsField : Type 0 where
@@ -108,11 +108,11 @@ module _ (w : ℕ) (_·_ : ℕ → ℕ → ℕ) where
         ap (λ x. x · x) (frobenius-mul n a b) ∙ swap (frobenius n a) (frobenius n b) (frobenius n a) (frobenius n b)
 
     -- a^(2^n - 1) a = a^(2^n)
-    ones-power-mul : (n a : ℕ) → ones-power n a · a ≡ frobenius n (a % 2 ^ w)
-    unfolding ones-power frobenius iterate
-    ones-power-mul zero a = one a
-    ones-power-mul (suc n) a =
-        assoc (ones-power n a · ones-power n a) a a ∙ swap (ones-power n a) (ones-power n a) a a ∙ ap (λ x. x · x) (ones-power-mul n a)
+    onesPower-mul : (n a : ℕ) → onesPower n a · a ≡ frobenius n (a % 2 ^ w)
+    unfolding onesPower frobenius iterate
+    onesPower-mul zero a = one a
+    onesPower-mul (suc n) a =
+        assoc (onesPower n a · onesPower n a) a a ∙ swap (onesPower n a) (onesPower n a) a a ∙ ap (λ x. x · x) (onesPower-mul n a)
 
     module _ (table : List ℕ) (C : Certificate table) where
       one-mod : 1 % 2 ^ w ≡ 1
@@ -144,8 +144,8 @@ module _ (w : ℕ) (_·_ : ℕ → ℕ → ℕ) where
               sym (undone e (mod-eq-of-lt h)) ∙ ap (λ x. combine table (bitXor x e)) i ∙ ap (combine table) (xor-self e) ∙ additive-zero (combined table)
 
       unit : (a : ℕ) → inverse a · a · a ≡ a % 2 ^ w
-      unfolding inverse ones-power iterate
-      unit a = ap (λ n. ones-power n a · a) (C .positive) ∙ ones-power-mul w a ∙ fixed a
+      unfolding inverse onesPower iterate
+      unit a = ap (λ n. onesPower n a · a) (C .positive) ∙ onesPower-mul w a ∙ fixed a
 
       unit-idempotent : (a : ℕ) → inverse a · a · (inverse a · a) ≡ inverse a · a
       unit-idempotent a = left-comm (inverse a · a) (inverse a) a ∙ ap (λ x. inverse a · x) (unit a) ∙ low-r (inverse a) a
@@ -167,7 +167,7 @@ module _ (w : ℕ) (_·_ : ℕ → ℕ → ℕ) where
 
     pub inverse-lt : (a : ℕ) → inverse a < 2 ^ w
     unfolding inverse
-    inverse-lt a = lt (ones-power (pred w) a) (ones-power (pred w) a)
+    inverse-lt a = lt (onesPower (pred w) a) (onesPower (pred w) a)
 
     -- a product with a number that is not zero is undone
     pub undo : (a b : ℕ) → a < 2 ^ w → a ≢ 0 → inverse a · (a · b) ≡ b % 2 ^ w

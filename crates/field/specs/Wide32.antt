@@ -6,7 +6,7 @@ use native.Mathlib.Nat.{suc-ne-zero}
 use lib.Dec.{lit<}
 use Rattle.field.specs.Linear.{combine, orbit, basis}
 use Rattle.field.specs.Ring.{xtime, times, mul}
-use Rattle.field.specs.Field.{iterate, ones-power, inverse, IsField, mul-field}
+use Rattle.field.specs.Field.{iterate, onesPower, inverse, IsField, mul-field}
 use Rattle.poly.specs.Field.{BinaryField}
 use Rattle.poly.specs.Poly.{eval}
 use Rattle.field.specs.Wide.{ops, Element, binary-field}
@@ -31,7 +31,7 @@ table32 =
     ∷ []
 
 pub field32 : IsField 32 mul32
-unfolding xtime times combine orbit basis iterate ones-power inverse table32
+unfolding xtime times combine orbit basis iterate onesPower inverse table32
 field32 =
     mul-field 32 low32 table32 tt refl refl
     (record { positive = refl; powers = refl; frobenius = refl; idempotents = refl; zero-zero = refl })

@@ -6,7 +6,7 @@ use native.Mathlib.Nat.{suc-ne-zero}
 use lib.Dec.{lit<}
 use Rattle.field.specs.Linear.{combine, orbit, basis}
 use Rattle.field.specs.Ring.{xtime, times, mul}
-use Rattle.field.specs.Field.{iterate, ones-power, inverse, IsField, mul-field}
+use Rattle.field.specs.Field.{iterate, onesPower, inverse, IsField, mul-field}
 use Rattle.poly.specs.Field.{BinaryField}
 use Rattle.poly.specs.Poly.{eval}
 use Rattle.field.specs.Wide.{ops, Element, binary-field}
@@ -35,7 +35,7 @@ table48 =
     ∷ []
 
 pub field48 : IsField 48 mul48
-unfolding xtime times combine orbit basis iterate ones-power inverse table48
+unfolding xtime times combine orbit basis iterate onesPower inverse table48
 field48 =
     mul-field 48 low48 table48 tt refl refl
     (record { positive = refl; powers = refl; frobenius = refl; idempotents = refl; zero-zero = refl })

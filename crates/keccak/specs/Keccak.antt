@@ -58,9 +58,9 @@ abbrev walk : ℕ → ℕ × ℕ
 walk zero = (1, 0)
 walk (suc t) = (walk t .1, (2 * walk t .0 + 3 * walk t .1) % 5)
 
-pub offsets-right : tab (λ t. lane offsets (walk t .0) (walk t .1)) 24 ≡ tab (λ t. (t + 1) * (t + 2) / 2) 24
+pub offsets-by-walk : (lane offsets 0 0 ≡ 0) × (tab (λ t. lane offsets (walk t .0) (walk t .1)) 24 ≡ tab (λ t. (t + 1) * (t + 2) / 2) 24)
 unfolding lane offsets
-offsets-right = refl
+offsets-by-walk = (refl, refl)
 
 -- ---- Algorithm 3, pi (3.2.3)
 
@@ -89,16 +89,16 @@ abbrev pub rc : ℕ → ℕ
 rc t = register (t % 255) % 2
 
 -- steps 2 and 3, the constant RC of round i: its bit 2 ^ j - 1 is rc (j + 7 i), for j = 0, .. 6
-abbrev pub constant : ℕ → ℕ
-constant i = bits 7
+abbrev pub roundConstant : ℕ → ℕ
+roundConstant i = bits 7
   where
     bits : ℕ → ℕ
     bits zero = 0
     bits (suc j) = bits j + rc (j + 7 * i) * 2 ^ (2 ^ j - 1)
 
 -- those of the 24 rounds
-abbrev pub constants : List ℕ
-constants =
+abbrev pub roundConstants : List ℕ
+roundConstants =
     0x0000000000000001 ∷ 0x0000000000008082 ∷ 0x800000000000808a ∷ 0x8000000080008000
     ∷ 0x000000000000808b ∷ 0x0000000080000001 ∷ 0x8000000080008081 ∷ 0x8000000000008009
     ∷ 0x000000000000008a ∷ 0x0000000000000088 ∷ 0x0000000080008009 ∷ 0x000000008000000a
@@ -106,8 +106,8 @@ constants =
     ∷ 0x8000000000008002 ∷ 0x8000000000000080 ∷ 0x000000000000800a ∷ 0x800000008000000a
     ∷ 0x8000000080008081 ∷ 0x8000000000008080 ∷ 0x0000000080000001 ∷ 0x8000000080008008 ∷ []
 
-pub constants-right : constants ≡ tab constant 24
-constants-right = refl
+pub roundConstants-by-register : roundConstants ≡ tab roundConstant 24
+roundConstants-by-register = refl
 
 -- ---- Algorithm 7, Keccak-p[1600, 24], which is Keccak-f[1600] (3.3, 3.4)
 
@@ -118,7 +118,7 @@ round c a = iota c (chi (pi (rho (theta a))))
 -- the first n rounds
 unfoldable pub rounds : ℕ → List ℕ → List ℕ
 rounds zero a = a
-rounds (suc n) a = round (getD constants n 0) (rounds n a)
+rounds (suc n) a = round (getD roundConstants n 0) (rounds n a)
 
 unfoldable pub keccakF : List ℕ → List ℕ
 keccakF a = rounds 24 a

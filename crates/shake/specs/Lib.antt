@@ -1,4 +1,4 @@
--- The definitions that the contracts of the crate cite: SHAKE128 as FIPS 202 has it, and the same as a stream.
+-- SHAKE128 (Shake128), what stands behind a message (Padding), and how many bytes it gives.
 pub mod Padding
 pub mod Shake128
-pub mod Stream
+pub mod Laws

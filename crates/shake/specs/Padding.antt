@@ -43,8 +43,8 @@ bits-padding (suc (suc z)) h =
     rw (more, ← bits-zeros z)
 
 -- behind a message of n bytes
-pub padding-right : (n : ℕ) → bits (padding (rate - n % rate)) ≡ 1 ∷ 1 ∷ 1 ∷ 1 ∷ pad101 (8 * rate) (8 * n + 4)
+pub padding-is-pad101 : (n : ℕ) → bits (padding (rate - n % rate)) ≡ 1 ∷ 1 ∷ 1 ∷ 1 ∷ pad101 (8 * rate) (8 * n + 4)
 unfolding pad101
-padding-right n =
+padding-is-pad101 n =
     let j : (8 * rate - (8 * n + 4 + 2) % (8 * rate)) % (8 * rate) ≡ 8 * (rate - n % rate) - 6 = omega arith in
     rw j (bits-padding (rate - n % rate) (omega arith))

@@ -4,9 +4,9 @@ ghost use Prim.Native.Nat.{_+_, _*_, _<_, _≤_};
 ghost use lib.ListN.{length};
 ghost use Rattle.slices.specs.Lists.{rows};
 ghost use Rattle.field.specs.Byte.{mul8};
-ghost use Rattle.aes.specs.Aes.{add, word, rcon, next-key, key-inputs};
-ghost use Rattle.circuit.specs.Circuit.{share, public, sbox-outputs, round-key-share, expansion-share, entering-share, cipher-share};
-ghost use Rattle.circuit.specs.Circuit.{input-shares, output-share, even-mansour-input-shares, even-mansour-output-share};
+ghost use Rattle.aes.specs.Aes.{add, word, rcon, nextKey, keyInputs};
+ghost use Rattle.circuit.specs.Circuit.{share, public, sboxOutputs, roundKeyShare, expansionShare, enteringShare, cipherShare};
+ghost use Rattle.circuit.specs.Circuit.{inputShares, outputShare, evenMansourInputShares, evenMansourOutputShare};
 
 // A party's share of the public byte c.
 fn public_byte(one: u8, c: u8) -> u8
@@ -33,7 +33,7 @@ fn public_share(one: u8, v: &[u8], out: &mut [u8])
 fn sbox_outputs(one: u8, inverses: &[u8], out: &mut [u8])
     requires { ⌜ one < 2 ⌝ }
     requires { ⌜ length (now out) ≡ length (now inverses) ⌝ }
-    ensures { λ _. ⌜ now (out .exit) ≡ sbox-outputs (length (now (inverses .entry))) one (now (inverses .entry)) ⌝ }
+    ensures { λ _. ⌜ now (out .exit) ≡ sboxOutputs (length (now (inverses .entry))) one (now (inverses .entry)) ⌝ }
 {
     slices::copy(out, inverses);
     steps::affine(out, public_byte(one, 0x63));
@@ -44,7 +44,7 @@ fn next_key_share(one: u8, k: [u8; 16], z: &[u8], n: usize) -> [u8; 16]
     requires { ⌜ one < 2 ⌝ }
     requires { ⌜ n < 10 ⌝ }
     requires { ⌜ 40 ≤ length (now z) ⌝ }
-    ensures { λ r. ⌜ r ≡ next-key k (add 4 (word (now (z .entry)) n) (public one 4 (rcon n))) ⌝ }
+    ensures { λ r. ⌜ r ≡ nextKey k (add 4 (word (now (z .entry)) n) (public one 4 (rcon n))) ⌝ }
 {
     let at = n * 4;
     let s = [z[at], z[at + 1], z[at + 2], z[at + 3]];
@@ -57,8 +57,8 @@ fn schedule(one: u8, key: &[u8], z: &[u8], inputs: &mut [u8]) -> [u8; 176]
     requires { ⌜ length (now key) ≡ 16 ⌝ }
     requires { ⌜ 40 ≤ length (now z) ⌝ }
     requires { ⌜ length (now inputs) ≡ 40 ⌝ }
-    ensures { λ r. ⌜ r ≡ expansion-share one (now (key .entry)) (now (z .entry)) ⌝ }
-    ensures { λ _. ⌜ now (inputs .exit) ≡ key-inputs (round-key-share one (now (key .entry)) (now (z .entry))) ⌝ }
+    ensures { λ r. ⌜ r ≡ expansionShare one (now (key .entry)) (now (z .entry)) ⌝ }
+    ensures { λ _. ⌜ now (inputs .exit) ≡ keyInputs (roundKeyShare one (now (key .entry)) (now (z .entry))) ⌝ }
 {
     let mut w = [0u8; 176];
     let mut k = steps::block_at(key, 0);
@@ -78,8 +78,8 @@ fn rounds(w: &[u8], p: &[u8], z: &[u8], inputs: &mut [u8]) -> [u8; 16]
     requires { ⌜ length (now p) ≡ 16 ⌝ }
     requires { ⌜ length (now z) ≡ 160 ⌝ }
     requires { ⌜ length (now inputs) ≡ 160 ⌝ }
-    ensures { λ r. ⌜ r ≡ cipher-share (now (w .entry)) (now (z .entry)) ⌝ }
-    ensures { λ _. ⌜ now (inputs .exit) ≡ rows (entering-share (now (w .entry)) (now (p .entry)) (now (z .entry))) 10 ⌝ }
+    ensures { λ r. ⌜ r ≡ cipherShare (now (w .entry)) (now (z .entry)) ⌝ }
+    ensures { λ _. ⌜ now (inputs .exit) ≡ rows (enteringShare (now (w .entry)) (now (p .entry)) (now (z .entry))) 10 ⌝ }
 {
     let mut x = steps::add_blocks(steps::block_at(p, 0), steps::block_at(w, 0));
     for n in 0..9 {
@@ -103,8 +103,8 @@ pub fn aes_circuit(
     requires { ⌜ length (now plaintext) ≡ 16 ⌝ }
     requires { ⌜ length (now inverses) ≡ 200 ⌝ }
     requires { ⌜ length (now inputs) ≡ 200 ⌝ }
-    ensures { λ r. ⌜ r ≡ output-share (share one (now (key .entry)) (now (inverses .entry))) ⌝ }
-    ensures { λ _. ⌜ now (inputs .exit) ≡ input-shares (now (plaintext .entry)) (share one (now (key .entry)) (now (inverses .entry))) ⌝ }
+    ensures { λ r. ⌜ r ≡ outputShare (share one (now (key .entry)) (now (inverses .entry))) ⌝ }
+    ensures { λ _. ⌜ now (inputs .exit) ≡ inputShares (now (plaintext .entry)) (share one (now (key .entry)) (now (inverses .entry))) ⌝ }
 {
     let mut z = [0u8; 200];
     sbox_outputs(one, inverses, &mut z);
@@ -129,9 +129,9 @@ pub fn even_mansour_circuit(
     requires { ⌜ length (now x) ≡ 16 ⌝ }
     requires { ⌜ length (now inverses) ≡ 160 ⌝ }
     requires { ⌜ length (now inputs) ≡ 160 ⌝ }
-    ensures { λ r. ⌜ r ≡ even-mansour-output-share (now (w .entry)) (share one (now (key .entry)) (now (inverses .entry))) ⌝ }
+    ensures { λ r. ⌜ r ≡ evenMansourOutputShare (now (w .entry)) (share one (now (key .entry)) (now (inverses .entry))) ⌝ }
     ensures { λ _. ⌜ now (inputs .exit)
-        ≡ even-mansour-input-shares (now (w .entry)) (now (x .entry)) (share one (now (key .entry)) (now (inverses .entry))) ⌝ }
+        ≡ evenMansourInputShares (now (w .entry)) (now (x .entry)) (share one (now (key .entry)) (now (inverses .entry))) ⌝ }
 {
     let mut z = [0u8; 160];
     sbox_outputs(one, inverses, &mut z);

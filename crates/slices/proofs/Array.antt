@@ -1,8 +1,6 @@
 -- What a function is told of a `[u8; n]` by value (`c .good`, and `.ok` of a call): its elements are bytes. Assumes nothing.
 use mathlib.Core.List.{List, [], _∷_}
 use Prim.Native.Nat.{ℕ}
-use mathlib.Core.Path.{_≡_}
-use lib.ListN.{length}
 use mir.Syntax.{w8}
 use mir.Val.{Val}
 use denote.Shadow.{shadow}
@@ -18,6 +16,3 @@ each-bytes (x ∷ xs) (u ∷ us) p = cons-bytes (p .0 .1) (each-bytes xs us (p .
 
 pub array-bytes : (n : ℕ) (xs : List ℕ) (vs : List Val) → Is (Array (UInt w8) n) xs vs → Bytes xs
 array-bytes n xs vs p = each-bytes xs (p .0) (p .1 .1)
-
-pub array-length : (n : ℕ) (xs : List ℕ) (vs : List Val) → Is (Array (UInt w8) n) xs vs → length xs ≡ n
-array-length n xs vs p = p .1 .0 .1

@@ -5,7 +5,7 @@ use Prim.Native.Nat.{ℕ, suc, _+_, _-_, _<_, _≤_}
 use native.Mathlib.Nat.{add-zero}
 use native.Mathlib.Omega.{arith}
 use lib.ListN.{length, getD, set, take, drop, length-append, length-drop, take-append-drop, drop-of-length-le}
-use lib.Seq.{drop-cons, set-at, take-all, drop-drop, drop-at, take-at, drop-append-add, length-take-le}
+use lib.Seq.{drop-cons, set-at, drop-drop, drop-at, take-at, drop-append-add, length-take-le}
 use borrow.Rule.Slice.PartMut.{putMid}
 use Rattle.slices.specs.Lists.{put}
 
@@ -20,12 +20,16 @@ length-put d at s h =
     let e : length (take at d) ≡ at = length-take-le at d (omega arith) in
     simp (length-append, length-drop, e) (omega arith)
 
--- the part up to where s ends
+-- how long the part up to where s ends is
+length-head : (d : List ℕ) (at : ℕ) (s : List ℕ) → at ≤ length d → length (take at d ++ s) ≡ at + length s
+length-head d at s h = length-append (take at d) s ∙ ap (λ (n : ℕ). n + length s) (length-take-le at d h)
+
+-- that part
 pub take-put : (d : List ℕ) (at : ℕ) (s : List ℕ) → at ≤ length d → take (at + length s) (put d at s) ≡ take at d ++ s
 unfolding put
 take-put d at s h =
-    let e : length (take at d ++ s) ≡ at + length s = length-append (take at d) s ∙ ap (λ (x : ℕ). x + length s) (length-take-le at d h) in
-    rw (← append-assoc (take at d) s (drop (at + length s) d)) (take-at (take at d ++ s) (drop (at + length s) d) (at + length s) e)
+    rw (← append-assoc (take at d) s (drop (at + length s) d))
+    (take-at (take at d ++ s) (drop (at + length s) d) (at + length s) (length-head d at s h))
 
 -- nothing is put
 pub put-none : (d : List ℕ) (at : ℕ) → d ≡ put d at []
@@ -37,7 +41,7 @@ pub put-snoc : (d : List ℕ) (at : ℕ) (s : List ℕ) (x : ℕ) → at + lengt
     → set (put d at s) (at + length s) x ≡ put d at (s ++ (x ∷ []))
 unfolding put
 put-snoc d at s x h =
-    let e : length (take at d ++ s) ≡ at + length s = length-append (take at d) s ∙ ap (λ (n : ℕ). n + length s) (length-take-le at d (omega arith)) in
+    let e : length (take at d ++ s) ≡ at + length s = length-head d at s (omega arith) in
     let n : at + length (s ++ (x ∷ [])) ≡ suc (at + length s) = simp length-append (omega arith) in
     rw (n, drop-cons d (at + length s) 0 h, ← append-assoc (take at d) s (getD d (at + length s) 0 ∷ drop (suc (at + length s)) d))
     (set-at (take at d ++ s) (getD d (at + length s) 0) (drop (suc (at + length s)) d) x (at + length s) e ∙ simp append-assoc)
@@ -77,27 +81,6 @@ pub wrote-all : {d p l : List ℕ} {n : ℕ} → Wrote d p n l → l ≡ p ++ dr
 unfolding front
 wrote-all {d} {p} {l} {n} w = w .is ∙ rw (w .size)
 
--- a part of d that was lent and came back as y, as long as it was
-module _ (a k : ℕ) (d y : List ℕ) (fits : a + k ≤ length d) (kept : length y ≡ length (take k (drop a d))) where
-  back-long : length y ≡ k
-  back-long = kept ∙ length-take-le k (drop a d) (omega (arith, length-drop a d))
-
-  -- the part is read again
-  pub part-back : take k (drop a (putMid a k d y)) ≡ y
-  part-back =
-      rw (drop-at (take a d) (y ++ drop k (drop a d)) a (length-take-le a d (omega arith)))
-      (take-at y (drop k (drop a d)) k back-long)
-
-  -- what stands after the part is as it was
-  pub after-kept : (n : ℕ) → a + k ≤ n → drop n (putMid a k d y) ≡ drop n d
-  after-kept n h =
-      let e : n ≡ a + k + (n - (a + k)) = omega arith in
-      let l : length (take a d) ≡ a = length-take-le a d (omega arith) in
-      let split : (s : List ℕ) → drop n s ≡ drop (n - (a + k)) (drop k (drop a s)) =
-      λ s. ap (λ (m : ℕ). drop m s) e ∙ sym (ap (drop (n - (a + k))) (drop-drop k a s) ∙ drop-drop (n - (a + k)) (a + k) s) in
-      split (putMid a k d y)
-      ∙ rw (drop-at (take a d) (y ++ drop k (drop a d)) a l, drop-at y (drop k (drop a d)) k back-long) (sym (split d))
-
 -- a front of a elements and then k elements that are all the rest, each lent and written
 pub put-pair : (a k : ℕ) (d : List ℕ) {y y′ z z′ : List ℕ} → y ≡ y′ → length y′ ≡ a → z ≡ z′ → length d ≤ a + k
     → putMid a k (putMid 0 a d y) z ≡ y′ ++ z′
@@ -110,7 +93,3 @@ pub put-two : (a : ℕ) (d : List ℕ) {y y′ z z′ : List ℕ} → y ≡ y′
     → putMid a (length (putMid 0 a d y) - a) (putMid 0 a d y) z ≡ y′ ++ z′
 put-two a d {y} {y′} e h f =
     put-pair a (length (putMid 0 a d y) - a) d e h f (rw e (omega (arith, length-append y′ (drop a d), length-drop a d)))
-
--- all of s from a on, as a part
-pub part-rest : (a : ℕ) (s : List ℕ) → take (length s - a) (drop a s) ≡ drop a s
-part-rest a s = take-all (length s - a) (drop a s) (omega (arith, length-drop a s))

@@ -1,6 +1,6 @@
--- Rows of one length in a slice, the length and the count being variables: where row i lies, and a loop that writes or adds a row at each turn.
+-- Rows of one length in a slice, the length and the count being variables: where row i lies, and a loop that writes a row at each turn.
 -- The products i * k and n * k are atoms to `omega`: cite `row-fits` and it closes the rest. Assumes nothing.
-use mathlib.Core.Path.{_≡_, sym, ap, ap₂, _∙_}
+use mathlib.Core.Path.{_≡_, refl, sym, ap, ap₂, _∙_}
 use mathlib.Core.List.{List, _++_}
 use Prim.Native.Nat.{ℕ, suc, _+_, _-_, _*_, _≤_, _<_}
 use native.Mathlib.Nat.{mul-le-mul-right, zero-mul, suc-mul}
@@ -9,7 +9,7 @@ use native.Mathlib.Omega.{arith}
 use lib.ListN.{length, take, drop, length-drop}
 use lib.Seq.{take-all, length-take-le}
 use borrow.Rule.Slice.PartMut.{putMid}
-use Rattle.slices.specs.Lists.{put, rows, row}
+use Rattle.slices.specs.Lists.{put, rows}
 use Rattle.slices.proofs.Put.{length-put, take-put, put-mid}
 
 -- ---- where a row lies
@@ -27,9 +27,6 @@ row-fits k {i} {n} h =
 -- what the code writes `&s[i * k..i * k + k]`
 row-size : (i k : ℕ) → i * k + k - i * k ≡ k
 row-size i k = omega arith
-
-pub row-cut : (i k : ℕ) (s : List ℕ) → take (i * k + k - i * k) (drop (i * k) s) ≡ row k i s
-row-cut i k s = rw (row-size i k)
 
 pub row-long : (i k : ℕ) (s : List ℕ) → i * k + k ≤ length s → length (take (i * k + k - i * k) (drop (i * k) s)) ≡ k
 row-long i k s h = rw (row-size i k) (length-take-le k (drop (i * k) s) (omega (arith, length-drop (i * k) s)))
@@ -60,7 +57,8 @@ pub stacking-lent : {f : ℕ → List ℕ} {k n m : ℕ} {l y : List ℕ} → St
     → length y ≡ length (take (n * k + k - n * k) (drop (n * k) l)) → Stacking f k (n + 1) m (putMid (n * k) (n * k + k - n * k) l y)
 stacking-lent {f} {k} {n} {m} {l} {y} w room e kept =
     let size : length y ≡ k = kept ∙ row-long n k l (omega (arith, w .long)) in
-    stacking-more w (ap length (sym e) ∙ size) (sym e ∙ e) room (put-mid (n * k) (n * k + k - n * k) l y (f n) e (row-size n k ∙ sym size ∙ ap length e))
+    let long : length (f n) ≡ k = ap length (sym e) ∙ size in
+    stacking-more w long refl room (put-mid (n * k) (n * k + k - n * k) l y (f n) e (row-size n k ∙ sym long))
 
 pub stacking-all : {f : ℕ → List ℕ} {k n m : ℕ} {l : List ℕ} → Stacking f k n m l → m ≤ n * k → l ≡ rows f n
 stacking-all {f} {k} {n} {m} {l} w h = sym (take-all (n * k) l (rw (w .long) h)) ∙ w .is

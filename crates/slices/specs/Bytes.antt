@@ -2,6 +2,7 @@
 use mathlib.Core.Path.{_≡_}
 use mathlib.Core.List.{List, [], _∷_, _++_}
 use Prim.Native.Nat.{ℕ, zero, suc, _<_}
+use native.Mathlib.Omega.{arith}
 use lib.Dec.{T, ltb, ltb→lt, lit<}
 use lib.ListN.{length, getD, take, drop, replicate}
 use lib.Pow.{areBytes}
@@ -41,7 +42,7 @@ tail-bytes p = record { lt = λ i. p .lt (suc i) }
 pub one-byte : {x : ℕ} → x < 256 → Bytes (x ∷ [])
 one-byte h = cons-bytes h nil-bytes
 
--- of a list that is written out the test is `tt`
+-- for a list that is written out pass `tt`: the test is computed
 pub tested-bytes : (xs : List ℕ) → T (areBytes xs) → Bytes xs
 tested-bytes [] t = nil-bytes
 tested-bytes (x ∷ xs) t =
@@ -58,13 +59,13 @@ append-bytes {xs} {ys} p q = record { lt = go xs (p .lt) }
     go (x ∷ xs) p zero = p 0
     go (x ∷ xs) p (suc i) = go xs (λ j. p (suc j)) i
 
-pub tab-bytes : {f : ℕ → ℕ} (n : ℕ) → ((i : ℕ) → f i < 256) → Bytes (tab f n)
+pub tab-bytes : {f : ℕ → ℕ} (n : ℕ) → ((i : ℕ) → i < n → f i < 256) → Bytes (tab f n)
 tab-bytes zero h = nil-bytes
-tab-bytes (suc n) h = cons-bytes (h 0) (tab-bytes n (λ j. h (suc j)))
+tab-bytes (suc n) h = cons-bytes (h 0 (omega arith)) (tab-bytes n (λ i l. h (suc i) (omega arith)))
 
-pub rows-bytes : (f : ℕ → List ℕ) (n : ℕ) → ((j : ℕ) → Bytes (f j)) → Bytes (rows f n)
+pub rows-bytes : (f : ℕ → List ℕ) (n : ℕ) → ((j : ℕ) → j < n → Bytes (f j)) → Bytes (rows f n)
 rows-bytes f zero h = nil-bytes
-rows-bytes f (suc n) h = append-bytes (rows-bytes f n h) (h n)
+rows-bytes f (suc n) h = append-bytes (rows-bytes f n (λ j l. h j (omega arith))) (h n (omega arith))
 
 pub replicate-bytes : (n : ℕ) {x : ℕ} → x < 256 → Bytes (replicate n x)
 replicate-bytes zero h = nil-bytes

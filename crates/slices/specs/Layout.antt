@@ -1,10 +1,11 @@
 -- Layouts: fields that stand one after the other, told apart by their sizes. Assumes nothing.
-use mathlib.Core.Path.{_≡_, refl}
-use mathlib.Core.List.{List, [], _∷_, _++_}
+use mathlib.Core.Path.{_≡_, refl, sym, ap, ap₂, _∙_}
+use mathlib.Core.List.{List, [], _∷_, _++_, append-assoc, append-nil}
 use Prim.Native.Nat.{ℕ, zero, suc, _+_, _≤_}
 use native.Mathlib.Omega.{arith}
-use lib.ListN.{length, getD, take, drop, length-take, length-drop}
-use Rattle.slices.specs.Bytes.{Bytes, Sized, nil-bytes, take-bytes, drop-bytes}
+use lib.ListN.{length, getD, take, drop, length-append, length-take, length-drop}
+use lib.Seq.{take-at, drop-at}
+use Rattle.slices.specs.Bytes.{Bytes, Sized, nil-bytes, append-bytes, take-bytes, drop-bytes}
 
 -- field k of a list, where the fields have these sizes
 unfoldable pub field : List ℕ → ℕ → List ℕ → List ℕ
@@ -44,3 +45,44 @@ field-bytes (n ∷ sizes) (suc k) s p = field-bytes sizes k (drop n s) (drop-byt
 
 pub sized-field : (sizes : List ℕ) (k : ℕ) {s : List ℕ} → Sized (total sizes) s → Sized (getD sizes k 0) (field sizes k s)
 sized-field sizes k {s} h = record { size = length-field sizes k s (h .size); bytes = field-bytes sizes k s (h .bytes) }
+
+-- ---- what is laid out is read back
+
+-- the fields have the sizes
+abbrev pub HasSizes : List ℕ → List (List ℕ) → Type 0
+HasSizes [] [] = Unit {0}
+HasSizes [] (s ∷ fields) = ⊥
+HasSizes (n ∷ sizes) [] = ⊥
+HasSizes (n ∷ sizes) (s ∷ fields) = (length s ≡ n) × HasSizes sizes fields
+
+pub length-layout : (sizes : List ℕ) (fields : List (List ℕ)) → HasSizes sizes fields → length (layout fields) ≡ total sizes
+unfolding layout
+length-layout [] [] h = refl
+length-layout [] (s ∷ fields) h = absurd h
+length-layout (n ∷ sizes) [] h = absurd h
+length-layout (n ∷ sizes) (s ∷ fields) h = length-append s (layout fields) ∙ ap₂ _+_ (h .0) (length-layout sizes fields (h .1))
+
+-- field k, whatever stands behind the last
+pub field-layout-append : (sizes : List ℕ) (fields : List (List ℕ)) (t : List ℕ) → HasSizes sizes fields → (k : ℕ)
+    → field sizes k (layout fields ++ t) ≡ getD fields k []
+unfolding layout field
+field-layout-append [] [] t h k = refl
+field-layout-append [] (s ∷ fields) t h k = absurd h
+field-layout-append (n ∷ sizes) [] t h k = absurd h
+field-layout-append (n ∷ sizes) (s ∷ fields) t h zero = rw append-assoc (take-at s (layout fields ++ t) n (h .0))
+field-layout-append (n ∷ sizes) (s ∷ fields) t h (suc k) =
+    ap (λ l. field sizes k (drop n l)) (append-assoc s (layout fields) t) ∙ ap (field sizes k) (drop-at s (layout fields ++ t) n (h .0))
+    ∙ field-layout-append sizes fields t (h .1) k
+
+pub field-layout : (sizes : List ℕ) (fields : List (List ℕ)) → HasSizes sizes fields → (k : ℕ) → field sizes k (layout fields) ≡ getD fields k []
+field-layout sizes fields h k = ap (field sizes k) (sym (append-nil (layout fields))) ∙ field-layout-append sizes fields [] h k
+
+-- bytes laid out are bytes
+abbrev pub AllBytes : List (List ℕ) → Type 0
+AllBytes [] = Unit {0}
+AllBytes (s ∷ fields) = Bytes s × AllBytes fields
+
+pub layout-bytes : (fields : List (List ℕ)) → AllBytes fields → Bytes (layout fields)
+unfolding layout
+layout-bytes [] h = nil-bytes
+layout-bytes (s ∷ fields) h = append-bytes (h .0) (layout-bytes fields (h .1))

@@ -6,6 +6,11 @@ use lib.Bits.{bitXor}
 use lib.Dec.{eqb}
 use lib.ListN.{length, take, drop}
 
+-- a where the test holds, else b
+abbrev pub choose : {A : Type 0} → Bool → A → A → A
+choose true a b = a
+choose false a b = b
+
 -- f 0, f 1, .. f (n - 1)
 abbrev pub tab : {A : Type 0} → (ℕ → A) → ℕ → List A
 tab f zero = []
@@ -39,7 +44,7 @@ unfoldable pub sumXor : ℕ → (ℕ → List ℕ) → List ℕ
 sumXor zero f = []
 sumXor (suc n) f = zipXor (sumXor n f) (f n)
 
--- as many elements, and the same
+-- of one length, and equal element by element
 unfoldable pub same : List ℕ → List ℕ → Bool
 same [] [] = true
 same [] (b ∷ t) = false

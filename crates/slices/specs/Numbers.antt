@@ -7,7 +7,8 @@ use native.Mathlib.Omega.{arith}
 use lib.ListN.{length, getD}
 use lib.Pow.{pow-pos, pow-add, shr-shr, mod-pow-add}
 use Rattle.slices.specs.Lists.{rows, row}
-use Rattle.slices.specs.Bytes.{Bytes, nil-bytes, cons-bytes, tail-bytes}
+use Rattle.slices.specs.Tab.{length-rows, row-of-rows}
+use Rattle.slices.specs.Bytes.{Bytes, nil-bytes, cons-bytes, tail-bytes, rows-bytes}
 
 unfoldable pub number : List ℕ → ℕ
 number [] = 0
@@ -91,3 +92,16 @@ bytesOf-number (b ∷ s) (suc n) p e =
     let low : (b + 256 * number s) % 256 ≡ b = omega arith in
     let high : (b + 256 * number s) / 256 ≡ number s = omega arith in
     ap₂ _∷_ low (ap (bytesOf n) high ∙ bytesOf-number s n (tail-bytes p) (omega arith))
+
+-- ---- many numbers
+
+pub length-numbers : (w n : ℕ) (f : ℕ → ℕ) → length (numbers w n f) ≡ n * w
+length-numbers w n f = length-rows w (λ k. bytesOf w (f k)) n (λ k l. length-bytesOf w (f k))
+
+pub numbers-bytes : (w n : ℕ) (f : ℕ → ℕ) → Bytes (numbers w n f)
+numbers-bytes w n f = rows-bytes (λ k. bytesOf w (f k)) n (λ k l. bytesOf-bytes w (f k))
+
+-- number k is read back
+pub numberAt-numbers : (w n : ℕ) (f : ℕ → ℕ) (k : ℕ) → k < n → numberAt w k (numbers w n f) ≡ f k % 2 ^ (8 * w)
+numberAt-numbers w n f k l =
+    ap number (row-of-rows w (λ k. bytesOf w (f k)) n (λ k l. length-bytesOf w (f k)) k l) ∙ number-bytesOf w (f k)

@@ -1,11 +1,12 @@
 -- Laws of sums of lists, `zipXor` and `sumXor`. Assumes nothing.
-use mathlib.Core.Path.{_≡_, refl, sym, ap, ap₂}
+use mathlib.Core.Path.{_≡_, refl, sym, ap, ap₂, _∙_}
 use mathlib.Core.List.{List, [], _∷_, _++_}
-use Prim.Native.Nat.{ℕ, zero, suc, _+_, _<_, max}
+use Prim.Native.Nat.{ℕ, zero, suc, _<_, max}
 use native.Mathlib.Omega.{arith}
 use lib.Bits.{bitXor, xor-zero-r, xor-lt}
 use lib.ListN.{length, getD, drop, replicate}
 use Rattle.slices.specs.Lists.{tab, zipXor, sumXor}
+use Rattle.slices.specs.Tab.{tab-list, tab-sized}
 use Rattle.slices.specs.Bytes.{Bytes, Sized, nil-bytes}
 
 -- ---- two lists
@@ -33,11 +34,7 @@ zip-tab f g (suc n) = ap (bitXor (f 0) (g 0) ∷_) (zip-tab (λ i. f (suc i)) (�
 
 -- by the elements, of lists of one length
 pub tab-zip : (xs ys : List ℕ) → length xs ≡ length ys → tab (λ k. bitXor (getD xs k 0) (getD ys k 0)) (length xs) ≡ zipXor xs ys
-unfolding zipXor
-tab-zip [] [] e = refl
-tab-zip [] (y ∷ ys) e = absurd (omega arith)
-tab-zip (x ∷ xs) [] e = absurd (omega arith)
-tab-zip (x ∷ xs) (y ∷ ys) e = ap (bitXor x y ∷_) (tab-zip xs ys (omega arith))
+tab-zip xs ys e = zip-tab (λ k. getD xs k 0) (λ k. getD ys k 0) (length xs) ∙ ap₂ zipXor (tab-list xs) (tab-sized ys (sym e))
 
 pub zip-append : (xs ys us vs : List ℕ) → length xs ≡ length ys → zipXor xs ys ++ zipXor us vs ≡ zipXor (xs ++ us) (ys ++ vs)
 unfolding zipXor
@@ -57,7 +54,7 @@ drop-zip (suc n) (x ∷ xs) [] = nil-right (drop n xs)
     nil-right (x ∷ l) = refl
 drop-zip (suc n) (x ∷ xs) (y ∷ ys) = drop-zip n xs ys
 
--- zeros, no more of them than the list is long, add nothing
+-- zeros, as many as the list is long, add nothing
 pub zip-zeros : (n : ℕ) (xs : List ℕ) → length xs ≡ n → zipXor (replicate n 0) xs ≡ xs
 unfolding zipXor
 zip-zeros zero xs h = refl

@@ -2,13 +2,13 @@
 use mathlib.Core.Path.{_≡_, refl, sym, ap, ap₂, _∙_}
 use mathlib.Core.List.{List, [], _∷_, _++_, map}
 use Prim.Native.Nat.{ℕ, zero, suc, _+_, _*_, _<_, _≤_}
-use native.Mathlib.Nat.{le-of-suc-le-suc, not-suc-le-zero, suc-mul, zero-mul}
+use native.Mathlib.Nat.{le-of-suc-le-suc, not-suc-le-zero, mul-le-mul-right, suc-mul, zero-mul}
 use native.Mathlib.Decide.{ℕ-discrete}
 use native.Mathlib.Omega.{arith}
 use lib.Arith.{digits-lt}
-use lib.ListN.{length, getD, take, drop, replicate, length-append, length-drop, List·getD-append}
+use lib.ListN.{length, getD, drop, replicate, length-append, length-drop, List·getD-append}
 use lib.Seq.{getD-append-add, getD-take, getD-drop, length-take-le}
-use Rattle.slices.specs.Lists.{tab, rows, part}
+use Rattle.slices.specs.Lists.{tab, rows, part, row}
 
 -- ---- tab
 
@@ -30,6 +30,10 @@ pub tab-list : (s : List ℕ) → tab (λ k. getD s k 0) (length s) ≡ s
 tab-list [] = refl
 tab-list (x ∷ s) = ap (x ∷_) (tab-list s)
 
+-- where its length is known as n
+pub tab-sized : {n : ℕ} (s : List ℕ) → length s ≡ n → tab (λ k. getD s k 0) n ≡ s
+tab-sized s e = ap (tab (λ k. getD s k 0)) (sym e) ∙ tab-list s
+
 pub tab-map : (f : ℕ → ℕ) (s : List ℕ) → tab (λ k. f (getD s k 0)) (length s) ≡ map f s
 tab-map f [] = refl
 tab-map f (x ∷ s) = ap (f x ∷_) (tab-map f s)
@@ -43,36 +47,43 @@ pub tab-snoc : {A : Type 0} (f : ℕ → A) (n : ℕ) (xs : List A) → tab f n 
 tab-snoc f zero xs = refl
 tab-snoc f (suc n) xs = ap (f 0 ∷_) (tab-snoc (λ k. f (suc k)) n xs)
 
-pub take-tab : {A : Type 0} (f : ℕ → A) (n m : ℕ) → n ≤ m → take n (tab f m) ≡ tab f n
-take-tab f zero m h = refl
-take-tab f (suc n) zero h = absurd (not-suc-le-zero h)
-take-tab f (suc n) (suc m) h = ap (f 0 ∷_) (take-tab (λ k. f (suc k)) n m (le-of-suc-le-suc h))
-
 -- a part by its elements
 pub part-tab : (k a : ℕ) (s : List ℕ) → a + k ≤ length s → part a k s ≡ tab (λ i. getD s (a + i) 0) k
 part-tab k a s h =
     let long : length (part a k s) ≡ k = length-take-le k (drop a s) (omega (arith, length-drop a s)) in
-    sym (tab-list (part a k s)) ∙ ap (tab (λ i. getD (part a k s) i 0)) long
-    ∙ tab-cong k (λ i l. getD-take k (drop a s) i 0 l ∙ getD-drop a s i 0)
+    sym (tab-sized (part a k s) long) ∙ tab-cong k (λ i l. getD-take k (drop a s) i 0 l ∙ getD-drop a s i 0)
 
 -- ---- rows
 
-pub length-rows : (k : ℕ) (f : ℕ → List ℕ) (n : ℕ) → ((j : ℕ) → length (f j) ≡ k) → length (rows f n) ≡ n * k
+pub length-rows : (k : ℕ) (f : ℕ → List ℕ) (n : ℕ) → ((j : ℕ) → j < n → length (f j) ≡ k) → length (rows f n) ≡ n * k
 length-rows k f zero h = sym (zero-mul k)
-length-rows k f (suc n) h = length-append (rows f n) (f n) ∙ ap₂ _+_ (length-rows k f n h) (h n) ∙ sym (suc-mul n k)
+length-rows k f (suc n) h =
+    length-append (rows f n) (f n) ∙ ap₂ _+_ (length-rows k f n (λ j l. h j (omega arith))) (h n (omega arith)) ∙ sym (suc-mul n k)
 
 pub rows-cong : {f g : ℕ → List ℕ} (n : ℕ) → ((j : ℕ) → j < n → f j ≡ g j) → rows f n ≡ rows g n
 rows-cong zero h = refl
 rows-cong (suc n) h = ap₂ _++_ (rows-cong n (λ j l. h j (omega arith))) (h n (omega arith))
 
 -- element i of row j
-pub getD-rows : (k : ℕ) (f : ℕ → List ℕ) (n : ℕ) → ((j : ℕ) → length (f j) ≡ k) → (j i : ℕ) → j < n → i < k
+pub getD-rows : (k : ℕ) (f : ℕ → List ℕ) (n : ℕ) → ((j : ℕ) → j < n → length (f j) ≡ k) → (j i : ℕ) → j < n → i < k
     → getD (rows f n) (j * k + i) 0 ≡ getD (f j) i 0
 getD-rows k f zero s j i h l = absurd (not-suc-le-zero h)
-getD-rows k f (suc n) s j i h l = go (ℕ-discrete j n) (λ m. getD-rows k f n s j i m l)
+getD-rows k f (suc n) s j i h l = go (ℕ-discrete j n) (λ m. getD-rows k f n (λ j m. s j (omega arith)) j i m l)
   where
+    size : length (rows f n) ≡ n * k
+    size = length-rows k f n (λ j m. s j (omega arith))
+
     go : Dec (j ≡ n) → (j < n → getD (rows f n) (j * k + i) 0 ≡ getD (f j) i 0) → getD (rows f n ++ f n) (j * k + i) 0 ≡ getD (f j) i 0
-    go (yes e) r = rw (e, ← length-rows k f n s) (getD-append-add (rows f n) (f n) i 0)
+    go (yes e) r = rw (e, ← size) (getD-append-add (rows f n) (f n) i 0)
     go (no ne) r =
         let m : j < n = omega arith in
-        List·getD-append (rows f n) (f n) 0 (j * k + i) (rw (length-rows k f n s) (digits-lt m l)) ∙ r m
+        List·getD-append (rows f n) (f n) 0 (j * k + i) (rw size (digits-lt m l)) ∙ r m
+
+-- row i
+pub row-of-rows : (k : ℕ) (f : ℕ → List ℕ) (n : ℕ) → ((j : ℕ) → j < n → length (f j) ≡ k) → (i : ℕ) → i < n → row k i (rows f n) ≡ f i
+row-of-rows k f n s i l =
+    part-tab k (i * k) (rows f n) (rw (length-rows k f n s) fits)
+    ∙ tab-cong k (λ b m. getD-rows k f n s i b l m) ∙ tab-sized (f i) (s i l)
+  where
+    fits : i * k + k ≤ n * k
+    fits = let e : suc i * k ≤ n * k = mul-le-mul-right k l in omega (arith, e, suc-mul i k)

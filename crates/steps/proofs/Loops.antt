@@ -8,7 +8,7 @@ use native.Mathlib.Omega.{arith}
 use lib.ListN.{length}
 use Rattle.slices.specs.Lists.{put, rows}
 use Rattle.slices.proofs.Rows.{Stacking, stacking-none, stacking-more, stacking-all}
-use Rattle.aes.specs.Aes.{key-input, key-inputs}
+use Rattle.aes.specs.Aes.{keyInput, keyInputs}
 
 -- ---- the key schedule: k is round key n of f; the S-boxes' inputs and the round keys before it are written
 
@@ -16,7 +16,7 @@ pub record Scheduling (f : ℕ → List ℕ) (n : ℕ) (k inputs w : List ℕ) :
   pub upto : n ≤ 10
   pub size : length k ≡ 16
   pub key : k ≡ f n
-  pub given : Stacking (λ j. key-input (f j)) 4 n 40 inputs
+  pub given : Stacking (λ j. keyInput (f j)) 4 n 40 inputs
   pub keys : Stacking f 16 n 176 w
 
 module _ {f : ℕ → List ℕ} (sizes : (n : ℕ) → length (f n) ≡ 16) where
@@ -26,18 +26,18 @@ module _ {f : ℕ → List ℕ} (sizes : (n : ℕ) → length (f n) ≡ 16) wher
         upto = omega arith;
         size = ap length e ∙ sizes 0;
         key = e;
-        given = stacking-none (λ j. key-input (f j)) 4 h;
+        given = stacking-none (λ j. keyInput (f j)) 4 h;
         keys = stacking-none f 16 l;
       }
 
-  pub scheduling-more : {n : ℕ} {k k′ x inputs inputs′ w w′ : List ℕ} → Scheduling f n k inputs w → n < 10 → x ≡ key-input k
+  pub scheduling-more : {n : ℕ} {k k′ x inputs inputs′ w w′ : List ℕ} → Scheduling f n k inputs w → n < 10 → x ≡ keyInput k
       → inputs′ ≡ put inputs (n * 4) x → w′ ≡ put w (n * 16) k → k′ ≡ f (suc n) → Scheduling f (n + 1) k′ inputs′ w′
   scheduling-more {n} s h e p q k =
       record {
         upto = omega arith;
         size = ap length k ∙ sizes (suc n);
         key = rw add-one k;
-        given = stacking-more (s .given) (ap length e) (e ∙ ap key-input (s .key)) (omega arith) p;
+        given = stacking-more (s .given) (ap length e) (e ∙ ap keyInput (s .key)) (omega arith) p;
         keys = stacking-more (s .keys) (s .size) (s .key) (omega arith) q;
       }
 
@@ -47,8 +47,8 @@ module _ {f : ℕ → List ℕ} where
       let e : n ≡ 10 = omega arith in
       subst (λ (m : ℕ). Scheduling f m k inputs w) e s
 
-  pub scheduling-inputs : {n : ℕ} {k inputs w : List ℕ} → Scheduling f n k inputs w → 10 ≤ n → inputs ≡ key-inputs f
-  unfolding key-inputs
+  pub scheduling-inputs : {n : ℕ} {k inputs w : List ℕ} → Scheduling f n k inputs w → 10 ≤ n → inputs ≡ keyInputs f
+  unfolding keyInputs
   scheduling-inputs s h = stacking-all (ended s h .given) (omega arith)
 
   pub scheduling-keys : {n : ℕ} {k inputs w w′ : List ℕ} → Scheduling f n k inputs w → 10 ≤ n → w′ ≡ put w 160 k → w′ ≡ rows f 11

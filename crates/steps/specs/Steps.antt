@@ -13,7 +13,7 @@ use Rattle.field.specs.Linear.{pick, combine, orbit, basis, Additive, agree, co
 use Rattle.field.specs.Ring.{times, xtime}
 use Rattle.field.specs.Field.{adds-l}
 use Rattle.field.specs.Byte.{mul8, field8, low8, times-one}
-use Rattle.aes.specs.Aes.{cell, state, add, columns, matrix, mixed, mix-columns}
+use Rattle.aes.specs.Aes.{cell, state, add, columns, matrix, mixed, mixColumns}
 
 -- ---- 5.1.1: the matrix times b is b plus b rotated by 1 to 4 bits
 
@@ -61,8 +61,8 @@ abbrev pub below : List ℕ → List ℕ
 below s = state (λ r c. cell s ((r + 1) % 4) c)
 
 -- 02 u + t + v
-abbrev pub doubled-plus : List ℕ → List ℕ → List ℕ → List ℕ
-doubled-plus u t v = tab (λ i. bitXor (bitXor (mul8 2 (getD u i 0)) (getD t i 0)) (getD v i 0)) 16
+abbrev pub doubledPlus : List ℕ → List ℕ → List ℕ → List ℕ
+doubledPlus u t v = tab (λ i. bitXor (bitXor (mul8 2 (getD u i 0)) (getD t i 0)) (getD v i 0)) 16
 
 module _ {s : List ℕ} (h : Bytes s) where
   abbrev worked : ℕ → ℕ → ℕ → ℕ → ℕ
@@ -79,8 +79,8 @@ module _ {s : List ℕ} (h : Bytes s) where
       ≡ stated a b c d ∷ stated b c d a ∷ stated c d a b ∷ stated d a b c ∷ m
   column a b c d e = ap₂ _∷_ (same a b c d) (ap₂ _∷_ (same b c d a) (ap₂ _∷_ (same c d a b) (ap₂ _∷_ (same d a b c) e)))
 
-  pub mix-columns-by-blocks : doubled-plus (add 16 s (below s)) (below s) (below (below (add 16 s (below s)))) ≡ mix-columns s
-  mix-columns-by-blocks = column 0 1 2 3 (column 4 5 6 7 (column 8 9 10 11 (column 12 13 14 15 refl)))
+  pub mixColumns-by-blocks : doubledPlus (add 16 s (below s)) (below s) (below (below (add 16 s (below s)))) ≡ mixColumns s
+  mixColumns-by-blocks = column 0 1 2 3 (column 4 5 6 7 (column 8 9 10 11 (column 12 13 14 15 refl)))
 
 -- ---- 5.2: a word plus Rcon
 

@@ -5,8 +5,8 @@ ghost use Prim.Native.Nat.{_+_, _*_, _<_, _≤_};
 ghost use lib.Bits.{bitXor};
 ghost use lib.ListN.{getD, length};
 ghost use Rattle.field.specs.Byte.{mul8};
-ghost use Rattle.aes.specs.Aes.{add, block, matrix, shift-rows, mix-columns, round-constants, next-key, key-input};
-ghost use Rattle.steps.specs.Steps.{below, doubled-plus};
+ghost use Rattle.aes.specs.Aes.{add, block, matrix, shiftRows, mixColumns, roundConstants, nextKey, keyInput};
+ghost use Rattle.steps.specs.Steps.{below, doubledPlus};
 
 // 4.1, and 5.1.4 where b is a round key.
 pub fn add_blocks(a: [u8; 16], b: [u8; 16]) -> [u8; 16]
@@ -53,7 +53,7 @@ pub fn affine(s: &mut [u8], c: u8)
 
 // 5.1.2: row r moves r columns to the left.
 fn shift_rows(s: [u8; 16]) -> [u8; 16]
-    ensures { λ r. ⌜ r ≡ shift-rows s ⌝ }
+    ensures { λ r. ⌜ r ≡ shiftRows s ⌝ }
 {
     [
         s[0],
@@ -109,7 +109,7 @@ fn below(x: [u8; 16]) -> [u8; 16]
 
 // 02 u + t + v.
 fn doubled_plus(u: [u8; 16], t: [u8; 16], v: [u8; 16]) -> [u8; 16]
-    ensures { λ r. ⌜ r ≡ doubled-plus u t v ⌝ }
+    ensures { λ r. ⌜ r ≡ doubledPlus u t v ⌝ }
 {
     let mut out = [0u8; 16];
     for i in 0..16 {
@@ -120,7 +120,7 @@ fn doubled_plus(u: [u8; 16], t: [u8; 16], v: [u8; 16]) -> [u8; 16]
 
 // 5.1.3: 02 a + 03 b + c + d is 02 (a + b) + b + (c + d).
 fn mix_columns(s: [u8; 16]) -> [u8; 16]
-    ensures { λ r. ⌜ r ≡ mix-columns s ⌝ }
+    ensures { λ r. ⌜ r ≡ mixColumns s ⌝ }
 {
     let t = below(s);
     let u = add_blocks(s, t);
@@ -129,21 +129,21 @@ fn mix_columns(s: [u8; 16]) -> [u8; 16]
 
 // A round after SubBytes(), with the round key k.
 pub fn round(s: [u8; 16], k: [u8; 16]) -> [u8; 16]
-    ensures { λ r. ⌜ r ≡ add 16 (mix-columns (shift-rows s)) k ⌝ }
+    ensures { λ r. ⌜ r ≡ add 16 (mixColumns (shiftRows s)) k ⌝ }
 {
     add_blocks(mix_columns(shift_rows(s)), k)
 }
 
 // The last round after SubBytes(), which mixes no columns.
 pub fn last_round(s: [u8; 16], k: [u8; 16]) -> [u8; 16]
-    ensures { λ r. ⌜ r ≡ add 16 (shift-rows s) k ⌝ }
+    ensures { λ r. ⌜ r ≡ add 16 (shiftRows s) k ⌝ }
 {
     add_blocks(shift_rows(s), k)
 }
 
 // 5.2: RotWord() of the last word of a round key.
 pub fn key_input(k: [u8; 16]) -> [u8; 4]
-    ensures { λ r. ⌜ r ≡ key-input k ⌝ }
+    ensures { λ r. ⌜ r ≡ keyInput k ⌝ }
 {
     [k[13], k[14], k[15], k[12]]
 }
@@ -153,14 +153,14 @@ const ROUND_CONSTANTS: [u8; 10] = [0x01, 0x02, 0x04, 0x08, 0x10, 0x20, 0x40, 0x8
 // The first byte of Rcon[n + 1].
 pub fn round_constant(n: usize) -> u8
     requires { ⌜ n < 10 ⌝ }
-    ensures { λ r. ⌜ r ≡ getD round-constants n 0 ⌝ }
+    ensures { λ r. ⌜ r ≡ getD roundConstants n 0 ⌝ }
 {
     ROUND_CONSTANTS[n]
 }
 
 // The round key after k, where temp is added to the first word.
 fn next_key(k: [u8; 16], temp: [u8; 4]) -> [u8; 16]
-    ensures { λ r. ⌜ r ≡ next-key k temp ⌝ }
+    ensures { λ r. ⌜ r ≡ nextKey k temp ⌝ }
 {
     let a0 = k[0] ^ temp[0];
     let a1 = k[1] ^ temp[1];
@@ -196,7 +196,7 @@ fn next_key(k: [u8; 16], temp: [u8; 4]) -> [u8; 16]
 
 // The round key after k: s is what SubWord() gives, and c the first byte of Rcon.
 pub fn key_step(k: [u8; 16], s: [u8; 4], c: u8) -> [u8; 16]
-    ensures { λ r. ⌜ r ≡ next-key k (add 4 s (c ∷ 0 ∷ 0 ∷ 0 ∷ [])) ⌝ }
+    ensures { λ r. ⌜ r ≡ nextKey k (add 4 s (c ∷ 0 ∷ 0 ∷ 0 ∷ [])) ⌝ }
 {
     next_key(k, [s[0] ^ c, s[1], s[2], s[3]])
 }

@@ -28,23 +28,23 @@ fn write_number(n: usize) {
 }
 
 // src absorbed in pieces of `piece` bytes.
-fn pieces(src: &[u8], piece: usize) -> shake::Sponge
+fn pieces(src: &[u8], piece: usize) -> sponge::Sponge
     requires { ⌜ (0 < piece) × (piece ≤ 100000) × (length (now src) ≤ 100000) ⌝ }
 {
-    let mut s = shake::new();
+    let mut s = sponge::new();
     let mut at = 0;
     while at + piece <= src.len() {
         let end = at + piece;
-        let t = shake::absorb(s, &src[at..end]);
+        let t = sponge::absorb(s, &src[at..end]);
         s = t;
         at = end;
     }
-    shake::absorb(s, &src[at..])
+    sponge::absorb(s, &src[at..])
 }
 
 // The next bytes of output, in hex.
-fn squeeze_hex(s: shake::Sponge, out: &mut [u8]) -> shake::Sponge {
-    let t = shake::squeeze(s, out);
+fn squeeze_hex(s: sponge::Sponge, out: &mut [u8]) -> sponge::Sponge {
+    let t = sponge::squeeze(s, out);
     write_hex(out);
     t
 }
@@ -59,7 +59,7 @@ fn show(len: usize, piece: usize, n: usize)
     write_number(piece);
     write_number(n);
     let s = pieces(&input[0..len], piece);
-    let f = shake::finish(s);
+    let f = sponge::finish(s);
     let mut first = [0u8; 700];
     let mut second = [0u8; 700];
     let third = n / 3;

@@ -5,12 +5,12 @@ use Prim.Native.Nat.{ℕ}
 use borrow.Author.Needs.{needs}
 use Rattle.slices.specs.Lists.{rows}
 use Rattle.slices.proofs.Put.{put-two}
-use Rattle.aes.specs.Aes.{key-inputs, entering, cipher, aes, sbox-inputs}
+use Rattle.aes.specs.Aes.{keyInputs, entering, cipher, aes, sboxInputs}
 use Rattle.cipher.proofs.encrypt.Statement.{statement}
 use Rattle.cipher.proofs.encrypt.Tie as tie
 
 returns : tie.Need-returns
-unfolding aes sbox-inputs key-inputs
+unfolding aes sboxInputs keyInputs
 returns c =
     let second = c .before .before in
     let first = second .before .before .before .before .before in

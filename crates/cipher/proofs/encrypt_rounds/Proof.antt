@@ -7,7 +7,7 @@ use native.Mathlib.Omega.{arith}
 use lib.ListN.{getD}
 use borrow.Author.Needs.{needs}
 use Rattle.slices.specs.Lists.{tab}
-use Rattle.aes.specs.Aes.{add, block, sbox, sub-bytes, shift-rows, mix-columns, entering, cipher}
+use Rattle.aes.specs.Aes.{add, block, sbox, subBytes, shiftRows, mixColumns, entering, cipher}
 use Rattle.aes.specs.Sizes.{length-entering}
 use Rattle.slices.specs.Tab.{tab-map}
 use Rattle.steps.proofs.Loops.{Running, running-none, running-more, running-last, running-inputs}
@@ -17,19 +17,19 @@ use Rattle.cipher.proofs.encrypt_rounds.Tie as tie
 -- ---- a round's state in the words of the definitions
 
 module _ (w p : List ℕ) where
-  substituted : {n : ℕ} {x y inputs : List ℕ} → Running (entering w p) n x inputs → y ≡ map sbox x → y ≡ sub-bytes (entering w p n)
+  substituted : {n : ℕ} {x y inputs : List ℕ} → Running (entering w p) n x inputs → y ≡ map sbox x → y ≡ subBytes (entering w p n)
   substituted {n} {x} s e = e ∙ sym (tab-map sbox x) ∙ ap₂ (λ (x : List ℕ) (m : ℕ). tab (λ i. sbox (getD x i 0)) m) (s .state) (s .size)
 
   next-state : {n : ℕ} {x y k x′ inputs : List ℕ} → Running (entering w p) n x inputs → y ≡ map sbox x → k ≡ block w (n + 1)
-      → x′ ≡ add 16 (mix-columns (shift-rows y)) k → x′ ≡ entering w p (suc n)
+      → x′ ≡ add 16 (mixColumns (shiftRows y)) k → x′ ≡ entering w p (suc n)
   unfolding entering
   next-state {n} s e q r =
-      r ∙ ap₂ (λ (u v : List ℕ). add 16 (mix-columns (shift-rows u)) v) (substituted s e) (q ∙ ap (block w) (add-one n))
+      r ∙ ap₂ (λ (u v : List ℕ). add 16 (mixColumns (shiftRows u)) v) (substituted s e) (q ∙ ap (block w) (add-one n))
 
   last-state : {x y k r inputs : List ℕ} → Running (entering w p) 9 x inputs → y ≡ map sbox x → k ≡ block w 10
-      → r ≡ add 16 (shift-rows y) k → r ≡ cipher w p
+      → r ≡ add 16 (shiftRows y) k → r ≡ cipher w p
   unfolding cipher
-  last-state s e q r = r ∙ ap₂ (λ (u v : List ℕ). add 16 (shift-rows u) v) (substituted s e) q
+  last-state s e q r = r ∙ ap₂ (λ (u v : List ℕ). add 16 (shiftRows u) v) (substituted s e) q
 
 -- ---- the loop
 

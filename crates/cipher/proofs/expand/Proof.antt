@@ -4,36 +4,36 @@ use mathlib.Core.List.{List}
 use Prim.Native.Nat.{ℕ, _-_}
 use native.Mathlib.Omega.{arith}
 use borrow.Author.Needs.{needs}
-use Rattle.aes.specs.Aes.{add, rcon, sub-word, next-key, key-input, round-key, key-expansion}
-use Rattle.aes.specs.Sizes.{length-round-key}
+use Rattle.aes.specs.Aes.{add, rcon, subWord, nextKey, keyInput, roundKey, keyExpansion}
+use Rattle.aes.specs.Sizes.{length-roundKey}
 use Rattle.steps.proofs.Loops.{Scheduling, scheduling-none, scheduling-more, scheduling-inputs, scheduling-keys}
 use Rattle.cipher.proofs.expand.Statement.{statement}
 use Rattle.cipher.proofs.expand.Tie as tie
 
 abbrev Inv-loop : tie.InvT-loop
-Inv-loop key inputs₀ w₀ k₀ n₀ inputs w k n = Scheduling (round-key key) n k inputs w
+Inv-loop key inputs₀ w₀ k₀ n₀ inputs w k n = Scheduling (roundKey key) n k inputs w
 
 abbrev μ-loop : tie.MeasureT-loop
 μ-loop key inputs₀ w₀ k₀ n₀ inputs w k n = 10 - n
 
 loop-holds : tie.Need-loop-holds Inv-loop μ-loop
-unfolding round-key
-loop-holds c = scheduling-none (length-round-key _) (c .block-at .ensures) (omega arith) refl
+unfolding roundKey
+loop-holds c = scheduling-none (length-roundKey _) (c .block-at .ensures) (omega arith) refl
 
 loop-again : tie.Need-loop-again Inv-loop μ-loop
-unfolding round-key
+unfolding roundKey
 loop-again c =
     let second = c .before .before in
     let first = second .before .before .before .before .before in
     let start = first .before .before in
     let at = start .before .before .before in
-    scheduling-more (length-round-key _) (at .loop .inv) (omega arith) (start .key-input .ensures) (first .copy-at .ensures)
+    scheduling-more (length-roundKey _) (at .loop .inv) (omega arith) (start .key-input .ensures) (first .copy-at .ensures)
     (second .copy-at2 .ensures)
     (c .next-round-key .ensures
-    ∙ ap (λ (k : List ℕ). next-key k (add 4 (sub-word (key-input k)) (rcon (at .loop .n)))) (at .loop .inv .key))
+    ∙ ap (λ (k : List ℕ). nextKey k (add 4 (subWord (keyInput k)) (rcon (at .loop .n)))) (at .loop .inv .key))
 
 returns : tie.Need-returns Inv-loop μ-loop
-unfolding key-expansion
+unfolding keyExpansion
 returns c =
     let at = c .before .before .before .before .before in
     (scheduling-keys (at .loop .inv) (omega arith) (c .before .copy-at3 .ensures), scheduling-inputs (at .loop .inv) (omega arith))

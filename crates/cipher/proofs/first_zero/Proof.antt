@@ -5,13 +5,13 @@ use native.Mathlib.Numerals.{add-one}
 use native.Mathlib.Omega.{arith}
 use lib.ListN.{length, drop}
 use borrow.Author.Needs.{needs}
-use Rattle.aes.specs.Aes.{first-zero}
-use Rattle.aes.specs.Zero.{first-zero-here, first-zero-later, first-zero-end}
+use Rattle.aes.specs.Aes.{firstZero}
+use Rattle.aes.specs.Zero.{firstZero-here, firstZero-later, firstZero-end}
 use Rattle.cipher.proofs.first_zero.Statement.{statement}
 use Rattle.cipher.proofs.first_zero.Tie as tie
 
 abbrev Inv-loop : tie.InvT-loop
-Inv-loop s i₀ i-end i = (i ≤ length s) × (i + first-zero (drop i s) ≡ first-zero s)
+Inv-loop s i₀ i-end i = (i ≤ length s) × (i + firstZero (drop i s) ≡ firstZero s)
 
 abbrev μ-loop : tie.MeasureT-loop
 μ-loop s i₀ i-end i = length s - i
@@ -22,17 +22,17 @@ loop-holds c = (omega arith, omega arith)
 returns : tie.Need-returns Inv-loop μ-loop
 returns c =
     let at = c .before .before .before in
-    omega (arith, first-zero-here (at .before .args .s .now) (at .loop .i) (omega arith) (c .if1 .taken))
+    omega (arith, firstZero-here (at .before .args .s .now) (at .loop .i) (omega arith) (c .if1 .taken))
 
 loop-again : tie.Need-loop-again Inv-loop μ-loop
 loop-again c =
     let at = c .before .before .before in
-    (omega arith, rw add-one (omega (arith, first-zero-later (at .before .args .s .now) (at .loop .i) (omega arith) (c .if1 .left))))
+    (omega arith, rw add-one (omega (arith, firstZero-later (at .before .args .s .now) (at .loop .i) (omega arith) (c .if1 .left))))
 
 returns-2 : tie.Need-returns-2 Inv-loop μ-loop
 returns-2 c =
     let at = c .before in
-    omega (arith, first-zero-end (at .before .args .s .now) (at .loop .i) (omega arith))
+    omega (arith, firstZero-end (at .before .args .s .now) (at .loop .i) (omega arith))
 
 pub first-zero-spec : {M : Type 1} → statement M
 first-zero-spec =

@@ -4,13 +4,13 @@ use borrow.Author.Needs.{needs}
 use Rattle.slices.specs.Tab.{getD-tab}
 use Rattle.field.specs.Linear.{combine, orbit}
 use Rattle.field.specs.Ring.{xtime, times}
-use Rattle.field.specs.Field.{iterate, ones-power, inverse}
+use Rattle.field.specs.Field.{iterate, onesPower, inverse}
 use Rattle.field.specs.Byte.{inverse8}
 use Rattle.gf.proofs.inverse.Statement.{statement}
 use Rattle.gf.proofs.inverse.Tie as tie
 
 returns : tie.Need-returns
-unfolding xtime times combine orbit iterate ones-power inverse
+unfolding xtime times combine orbit iterate onesPower inverse
 returns c = getD-tab inverse8 256 (c .args .a) 0 (omega arith)
 
 pub inverse-spec : {M : Type 1} → statement M

@@ -5,7 +5,7 @@ use native.Mathlib.Numerals.{add-one}
 use native.Mathlib.Omega.{arith}
 use borrow.Author.Needs.{needs}
 use lib.ListN.{getD}
-use Rattle.keccak.specs.Keccak.{keccakF, rounds, round, constants}
+use Rattle.keccak.specs.Keccak.{keccakF, rounds, round, roundConstants}
 use Rattle.permutation.specs.State.{state}
 use Rattle.permutation.proofs.permute.Statement.{statement}
 use Rattle.permutation.proofs.permute.Tie as tie
@@ -24,7 +24,7 @@ loop-again : tie.Need-loop-again Inv-loop μ-loop
 unfolding rounds
 loop-again c =
     let h = c .before .before .loop in
-    (search needs, rw add-one (c .step-round .ensures ∙ ap (round (getD constants (h .i) 0)) (h .inv .1)))
+    (search needs, rw add-one (c .step-round .ensures ∙ ap (round (getD roundConstants (h .i) 0)) (h .inv .1)))
 
 returns : tie.Need-returns Inv-loop μ-loop
 unfolding keccakF

@@ -8,46 +8,46 @@ use borrow.Author.Needs.{needs}
 use borrow.Rule.Slice.PartMut.{putMid}
 use Rattle.slices.specs.Lists.{rows}
 use Rattle.slices.proofs.Put.{put-two}
-use Rattle.aes.specs.Aes.{key-inputs}
+use Rattle.aes.specs.Aes.{keyInputs}
 use Rattle.circuit.specs.Circuit.{
   share,
   public,
-  sbox-outputs,
-  round-key-share,
-  expansion-share,
-  entering-share,
-  cipher-share,
-  input-shares,
-  output-share,
+  sboxOutputs,
+  roundKeyShare,
+  expansionShare,
+  enteringShare,
+  cipherShare,
+  inputShares,
+  outputShare,
 }
 use Rattle.shares.proofs.aes_circuit.Statement.{statement}
 use Rattle.shares.proofs.aes_circuit.Tie as tie
 
 -- ---- what the calls give, in the words of the definitions
 
-module _ (one : ℕ) (key plaintext y : List ℕ) {z w : List ℕ} (hz : z ≡ sbox-outputs 200 one y) (hw : w ≡ expansion-share one key z) where
+module _ (one : ℕ) (key plaintext y : List ℕ) {z w : List ℕ} (hz : z ≡ sboxOutputs 200 one y) (hw : w ≡ expansionShare one key z) where
   abbrev t : List ℕ
   t = take 160 (drop 40 z)
 
-  rest : t ≡ drop 40 (sbox-outputs 200 one y)
-  unfolding sbox-outputs
+  rest : t ≡ drop 40 (sboxOutputs 200 one y)
+  unfolding sboxOutputs
   rest = ap (λ (z : List ℕ). take 160 (drop 40 z)) hz
 
-  whole : w ≡ expansion-share one key (sbox-outputs 200 one y)
-  whole = hw ∙ ap (expansion-share one key) hz
+  whole : w ≡ expansionShare one key (sboxOutputs 200 one y)
+  whole = hw ∙ ap (expansionShare one key) hz
 
-  output : {r : List ℕ} → r ≡ cipher-share w t → r ≡ output-share (share one key y)
-  unfolding output-share
-  output e = e ∙ ap₂ cipher-share whole rest
+  output : {r : List ℕ} → r ≡ cipherShare w t → r ≡ outputShare (share one key y)
+  unfolding outputShare
+  output e = e ∙ ap₂ cipherShare whole rest
 
-  inputs : (d : List ℕ) {p i j : List ℕ} → p ≡ public one 16 plaintext → i ≡ key-inputs (round-key-share one key z)
-      → j ≡ rows (entering-share w p t) 10
-      → putMid 40 (length (putMid 0 40 d i) - 40) (putMid 0 40 d i) j ≡ input-shares plaintext (share one key y)
-  unfolding input-shares key-inputs
+  inputs : (d : List ℕ) {p i j : List ℕ} → p ≡ public one 16 plaintext → i ≡ keyInputs (roundKeyShare one key z)
+      → j ≡ rows (enteringShare w p t) 10
+      → putMid 40 (length (putMid 0 40 d i) - 40) (putMid 0 40 d i) j ≡ inputShares plaintext (share one key y)
+  unfolding inputShares keyInputs
   inputs d {p} hp hi hj =
-      put-two 40 d (hi ∙ ap (λ (z : List ℕ). key-inputs (round-key-share one key z)) hz) refl
-      (hj ∙ ap (λ (p : List ℕ). rows (entering-share w p t) 10) hp
-      ∙ ap₂ (λ (w t : List ℕ). rows (entering-share w (public one 16 plaintext) t) 10) whole rest)
+      put-two 40 d (hi ∙ ap (λ (z : List ℕ). keyInputs (roundKeyShare one key z)) hz) refl
+      (hj ∙ ap (λ (p : List ℕ). rows (enteringShare w p t) 10) hp
+      ∙ ap₂ (λ (w t : List ℕ). rows (enteringShare w (public one 16 plaintext) t) 10) whole rest)
 
 returns : tie.Need-returns
 returns c =
@@ -62,7 +62,7 @@ returns c =
     let plaintext = args .plaintext .now in
     let ly : length y ≡ 200 = omega (arith, entry .pre) in
     let lp : length plaintext ≡ 16 = omega (arith, entry .pre) in
-    let hz = start .sbox-outputs .ensures ∙ ap (λ (m : ℕ). sbox-outputs m one y) ly in
+    let hz = start .sbox-outputs .ensures ∙ ap (λ (m : ℕ). sboxOutputs m one y) ly in
     let hp = constant .public-share .ensures ∙ ap (λ (n : ℕ). public one n plaintext) lp in (
       output one (args .key .now) plaintext y hz (first .schedule .ensures .0) (second .rounds .ensures .0),
       inputs one (args .key .now) plaintext y hz (first .schedule .ensures .0) (args .inputs .now) hp (first .schedule .ensures .1)

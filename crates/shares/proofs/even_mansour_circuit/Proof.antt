@@ -10,28 +10,28 @@ use Rattle.aes.specs.Aes.{add, block}
 use Rattle.circuit.specs.Circuit.{
   share,
   public,
-  sbox-outputs,
-  entering-share,
-  cipher-share,
-  even-mansour-input-shares,
-  even-mansour-output-share,
+  sboxOutputs,
+  enteringShare,
+  cipherShare,
+  evenMansourInputShares,
+  evenMansourOutputShare,
 }
 use Rattle.shares.proofs.even_mansour_circuit.Statement.{statement}
 use Rattle.shares.proofs.even_mansour_circuit.Tie as tie
 
 -- ---- what the calls give, in the words of the definitions
 
-module _ (one : ℕ) (key w x y : List ℕ) {z v : List ℕ} (hz : z ≡ sbox-outputs 160 one y) (hv : v ≡ public one 176 w) where
-  output : {r r′ k : List ℕ} → k ≡ block key 0 → r ≡ cipher-share v z → r′ ≡ add 16 r k → r′ ≡ even-mansour-output-share w (share one key y)
-  unfolding even-mansour-output-share
-  output hk hr e = e ∙ ap₂ (add 16) (hr ∙ ap₂ cipher-share hv hz) hk
+module _ (one : ℕ) (key w x y : List ℕ) {z v : List ℕ} (hz : z ≡ sboxOutputs 160 one y) (hv : v ≡ public one 176 w) where
+  output : {r r′ k : List ℕ} → k ≡ block key 0 → r ≡ cipherShare v z → r′ ≡ add 16 r k → r′ ≡ evenMansourOutputShare w (share one key y)
+  unfolding evenMansourOutputShare
+  output hk hr e = e ∙ ap₂ (add 16) (hr ∙ ap₂ cipherShare hv hz) hk
 
-  inputs : {p k s i : List ℕ} → p ≡ public one 16 x → k ≡ block key 0 → s ≡ add 16 p k → i ≡ rows (entering-share v s z) 10
-      → i ≡ even-mansour-input-shares w x (share one key y)
-  unfolding even-mansour-input-shares
+  inputs : {p k s i : List ℕ} → p ≡ public one 16 x → k ≡ block key 0 → s ≡ add 16 p k → i ≡ rows (enteringShare v s z) 10
+      → i ≡ evenMansourInputShares w x (share one key y)
+  unfolding evenMansourInputShares
   inputs hp hk hs e =
-      e ∙ ap (λ (s : List ℕ). rows (entering-share v s z) 10) (hs ∙ ap₂ (add 16) hp hk)
-      ∙ ap₂ (λ (v z : List ℕ). rows (entering-share v (add 16 (public one 16 x) key) z) 10) hv hz
+      e ∙ ap (λ (s : List ℕ). rows (enteringShare v s z) 10) (hs ∙ ap₂ (add 16) hp hk)
+      ∙ ap₂ (λ (v z : List ℕ). rows (enteringShare v (add 16 (public one 16 x) key) z) 10) hv hz
 
 returns : tie.Need-returns
 returns c =
@@ -50,7 +50,7 @@ returns c =
     let ly : length y ≡ 160 = omega (arith, entry .pre) in
     let lw : length w ≡ 176 = omega (arith, entry .pre) in
     let lx : length x ≡ 16 = omega (arith, entry .pre) in
-    let hz = start .sbox-outputs .ensures ∙ ap (λ (m : ℕ). sbox-outputs m one y) ly in
+    let hz = start .sbox-outputs .ensures ∙ ap (λ (m : ℕ). sboxOutputs m one y) ly in
     let hv = first .public-share .ensures ∙ ap (λ (n : ℕ). public one n w) lw in
     let hp = second .public-share2 .ensures ∙ ap (λ (n : ℕ). public one n x) lx in (
       output one (args .key .now) w x y hz hv (block .block-at .ensures) (run .rounds .ensures .0) (c .add-blocks2 .ensures),

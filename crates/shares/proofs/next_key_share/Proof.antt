@@ -7,7 +7,7 @@ use lib.ListN.{getD}
 use borrow.Author.Needs.{needs}
 use Rattle.field.specs.Field.{zero-r}
 use Rattle.field.specs.Byte.{mul8, field8}
-use Rattle.aes.specs.Aes.{add, round-constants, rcon, next-key}
+use Rattle.aes.specs.Aes.{add, roundConstants, rcon, nextKey}
 use Rattle.circuit.specs.Circuit.{public}
 use Rattle.shares.proofs.next_key_share.Statement.{statement}
 use Rattle.shares.proofs.next_key_share.Tie as tie
@@ -16,15 +16,15 @@ word-read : (z : List ℕ) (a : ℕ) → getD z a 0 ∷ getD z (a + 1) 0 ∷ get
     ≡ getD z (a + 0) 0 ∷ getD z (a + 1) 0 ∷ getD z (a + 2) 0 ∷ getD z (a + 3) 0 ∷ []
 word-read z a = ap (λ (i : ℕ). getD z i 0 ∷ getD z (a + 1) 0 ∷ getD z (a + 2) 0 ∷ getD z (a + 3) 0 ∷ []) (sym (add-zero a))
 
-public-rcon : (one n : ℕ) → mul8 one (getD round-constants n 0) ∷ 0 ∷ 0 ∷ 0 ∷ [] ≡ public one 4 (rcon n)
-public-rcon one n = ap (λ (x : ℕ). mul8 one (getD round-constants n 0) ∷ x ∷ x ∷ x ∷ []) (sym (zero-r 8 mul8 (field8 .ring) one))
+public-rcon : (one n : ℕ) → mul8 one (getD roundConstants n 0) ∷ 0 ∷ 0 ∷ 0 ∷ [] ≡ public one 4 (rcon n)
+public-rcon one n = ap (λ (x : ℕ). mul8 one (getD roundConstants n 0) ∷ x ∷ x ∷ x ∷ []) (sym (zero-r 8 mul8 (field8 .ring) one))
 
 returns : tie.Need-returns
 returns c =
     let constant = c .before in
     let args = constant .before .before .before .before .before .before .before .args in
     c .key-step .ensures
-    ∙ ap₂ (λ (s t : List ℕ). next-key (args .k) (add 4 s t)) (word-read (args .z .now) (args .n * 4))
+    ∙ ap₂ (λ (s t : List ℕ). nextKey (args .k) (add 4 s t)) (word-read (args .z .now) (args .n * 4))
     (ap (λ (x : ℕ). x ∷ 0 ∷ 0 ∷ 0 ∷ []) (constant .public-byte .ensures ∙ ap (mul8 (args .one)) (constant .before .round-constant .ensures))
     ∙ public-rcon (args .one) (args .n))
 

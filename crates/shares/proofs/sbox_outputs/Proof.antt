@@ -6,12 +6,12 @@ use lib.Bits.{bitXor}
 use borrow.Author.Needs.{needs}
 use Rattle.aes.specs.Aes.{matrix}
 use Rattle.slices.specs.Tab.{tab-map}
-use Rattle.circuit.specs.Circuit.{affine, sbox-outputs}
+use Rattle.circuit.specs.Circuit.{affine, sboxOutputs}
 use Rattle.shares.proofs.sbox_outputs.Statement.{statement}
 use Rattle.shares.proofs.sbox_outputs.Tie as tie
 
 returns : tie.Need-returns
-unfolding sbox-outputs affine
+unfolding sboxOutputs affine
 returns c =
     let second = c .before .before in
     let constant = second .before in

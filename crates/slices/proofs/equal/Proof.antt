@@ -32,7 +32,8 @@ loop-again : tie.Need-loop-again Inv-loop μ-loop
 loop-again c =
     let l = c .before .before .before .before in
     let s = l .before .before .args in
-    (omega arith, omega arith, l .loop .inv .2 ∙ rw add-one (same-next (s .a .now) (s .b .now) (l .loop .i) (omega arith) (omega arith) (c .if2 .left)))
+    let more = same-next (s .a .now) (s .b .now) (l .loop .i) (omega arith) (omega arith) (c .if2 .left) in
+    (omega arith, omega arith, l .loop .inv .2 ∙ rw add-one more)
 
 returns-3 : tie.Need-returns-3 Inv-loop μ-loop
 returns-3 c =

@@ -31,7 +31,9 @@ loop-again : tie.Need-loop-again Inv-loop μ-loop
 loop-again c =
     let k = c .before .before .before in
     let s = k .before .before in
-    (search needs, next-byte (s .args .s .now) (s .args .at) (s .args .w) (k .loop .k) (omega arith) (k .loop .inv .0) (s .pre .1) (k .loop .inv .1) (c .wide .ensures))
+    let a = s .args in
+    let inv = k .loop .inv in
+    (search needs, next-byte (a .s .now) (a .at) (a .w) (k .loop .k) (omega arith) (inv .0) (s .pre .1) (inv .1) (c .wide .ensures))
 
 returns : tie.Need-returns Inv-loop μ-loop
 returns c =

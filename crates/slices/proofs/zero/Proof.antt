@@ -1,28 +1,27 @@
 -- `slices::zero` meets its contract: the loop fills `dst` with zeros. Assumes nothing.
 use mathlib.Core.Path.{_≡_, refl, _∙_}
-use Prim.Native.Nat.{_≤_, _-_}
+use Prim.Native.Nat.{_-_}
 use native.Mathlib.Omega.{arith}
 use lib.ListN.{length}
-use borrow.Author.Needs.{needs}
 use Rattle.slices.specs.Tab.{tab-same}
-use Rattle.slices.proofs.Fill.{filled, filled-more, filled-none, filled-all}
+use Rattle.slices.proofs.Fill.{Filling, filling-none, filling-more, filling-all}
 use Rattle.slices.proofs.zero.Statement.{statement}
 use Rattle.slices.proofs.zero.Tie as tie
 
 abbrev Inv-loop : tie.InvT-loop
-Inv-loop dst₀ i₀ i-end dst i = (i ≤ i-end) × (i-end ≡ length dst₀) × (length dst ≡ length dst₀) × (dst ≡ filled (λ k. 0) i dst₀)
+Inv-loop dst₀ i₀ i-end dst i = (i-end ≡ length dst₀) × Filling (λ k. 0) (length dst₀) dst₀ i dst
 
 abbrev μ-loop : tie.MeasureT-loop
 μ-loop dst₀ i₀ i-end dst i = length dst₀ - i
 
 loop-holds : tie.Need-loop-holds Inv-loop μ-loop
-loop-holds c = (search needs, refl, refl, filled-none _ _)
+loop-holds c = (refl, filling-none refl)
 
 loop-again : tie.Need-loop-again Inv-loop μ-loop
-loop-again c = (omega arith, refl, search needs, filled-more _ _ (c .before .loop .inv .3) (omega arith) refl)
+loop-again c = (refl, filling-more (c .before .loop .inv .1) (omega arith) refl)
 
 returns : tie.Need-returns Inv-loop μ-loop
-returns c = filled-all _ _ (c .before .loop .inv .3) (omega arith) ∙ tab-same 0 (length (c .before .before .args .dst .now))
+returns c = filling-all (c .before .loop .inv .1) (omega arith) ∙ tab-same 0 (length (c .before .before .args .dst .now))
 
 pub zero-spec : {M : Type 1} → statement M
 zero-spec =

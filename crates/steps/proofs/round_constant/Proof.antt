@@ -1,12 +1,12 @@
 -- `steps::round_constant` reads the table of the round constants. Assumes nothing.
 use mathlib.Core.Path.{refl}
 use borrow.Author.Needs.{needs}
-use Rattle.aes.specs.Aes.{round-constants}
+use Rattle.aes.specs.Aes.{roundConstants}
 use Rattle.steps.proofs.round_constant.Statement.{statement}
 use Rattle.steps.proofs.round_constant.Tie as tie
 
 returns : tie.Need-returns
-unfolding round-constants
+unfolding roundConstants
 returns c = refl
 
 pub round-constant-spec : {M : Type 1} → statement M

@@ -1,7 +1,7 @@
--- `shake::write` meets its contract: either call is `slices::store`. Assumes nothing.
+-- `sponge::write` meets its contract: either call is `slices::store`. Assumes nothing.
 use borrow.Author.Needs.{needs}
-use Rattle.shake.proofs.write.Statement.{statement}
-use Rattle.shake.proofs.write.Tie as tie
+use Rattle.sponge.proofs.write.Statement.{statement}
+use Rattle.sponge.proofs.write.Tie as tie
 
 returns : tie.Need-returns
 returns c = let s = c .before .before in rw (s .before .before .if1 .taken) (s .store .ensures)

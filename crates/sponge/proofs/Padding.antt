@@ -10,9 +10,9 @@ use lib.ListN.{length, getD, set, replicate, length-append, length-replicate}
 use lib.Seq.{getD-set-same, set-getD, set-set}
 use Rattle.slices.specs.Bytes.{Bytes, nil-bytes, cons-bytes, one-byte, append-bytes, replicate-bytes}
 use Rattle.slices.specs.Xor.{xor-assoc, xor-shl}
 use Rattle.shake.specs.Padding.{rate, padding}
-use Rattle.shake.specs.Stream.{xorAt}
-use Rattle.shake.proofs.Lanes.{addAt}
+use Rattle.sponge.specs.Stream.{xorAt}
+use Rattle.sponge.proofs.Lanes.{addAt}
 
 pub padding-bytes : (q : ℕ) → Bytes (padding q)
 unfolding padding

@@ -1,7 +1,7 @@
--- `shake::read` meets its contract: either call is `slices::load`. Assumes nothing.
+-- `sponge::read` meets its contract: either call is `slices::load`. Assumes nothing.
 use borrow.Author.Needs.{needs}
-use Rattle.shake.proofs.read.Statement.{statement}
-use Rattle.shake.proofs.read.Tie as tie
+use Rattle.sponge.proofs.read.Statement.{statement}
+use Rattle.sponge.proofs.read.Tie as tie
 
 returns : tie.Need-returns
 returns c = rw (c .before .if1 .taken) (c .load .ensures)

@@ -1,12 +1,12 @@
--- `shake::digest` meets its contract: the stream's output is SHAKE128's. Assumes nothing.
+-- `sponge::digest` meets its contract: the stream's output is SHAKE128's. Assumes nothing.
 use mathlib.Core.Path.{ap, _∙_}
 use borrow.Author.Needs.{needs}
 use lib.ListN.{length}
 use Rattle.slices.specs.Bytes.{bytes-of}
-use Rattle.shake.specs.Stream.{absorbed}
-use Rattle.shake.proofs.Shake.{output}
-use Rattle.shake.proofs.digest.Statement.{statement}
-use Rattle.shake.proofs.digest.Tie as tie
+use Rattle.sponge.specs.Stream.{absorbed}
+use Rattle.sponge.proofs.Shake.{output}
+use Rattle.sponge.proofs.digest.Statement.{statement}
+use Rattle.sponge.proofs.digest.Tie as tie
 
 returns : tie.Need-returns
 returns c =

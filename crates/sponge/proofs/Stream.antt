@@ -8,11 +8,12 @@ use native.Mathlib.Decide.{decLt}
 use borrow.Author.Tests.{lt-ltb, le-ltb}
 use lib.Dec.{lit<}
 use lib.ListN.{length}
+use Rattle.slices.specs.Lists.{choose}
 use Rattle.keccak.specs.Keccak.{keccakF}
-use Rattle.shake.specs.declared.Sponge.{Sponge}
+use Rattle.sponge.specs.declared.Sponge.{Sponge}
 use Rattle.shake.specs.Padding.{rate}
 use Rattle.shake.specs.Shake128.{byteOf}
-use Rattle.shake.specs.Stream.{sponge, empty, permuted, pick, ready, absorbByte, absorbed, past, squeezed, rest}
+use Rattle.sponge.specs.Stream.{sponge, empty, permuted, ready, absorbByte, absorbed, past, squeezed, rest}
 
 -- ---- pieces
 
@@ -44,11 +45,11 @@ length-squeezed (suc n) s = ap suc (length-squeezed n (past (ready s)))
 
 pub ready-full : (s : Sponge) {a : List ℕ} {p : ℕ} → rate ≤ s .at → a ≡ keccakF (s .lanes) → p ≡ 0 → sponge a p ≡ ready s
 unfolding ready permuted
-ready-full s h e z = ap₂ sponge e z ∙ ap (λ t. pick t s (permuted (s .lanes))) (sym (le-ltb (s .at) rate h))
+ready-full s h e z = ap₂ sponge e z ∙ ap (λ t. choose t s (permuted (s .lanes))) (sym (le-ltb (s .at) rate h))
 
 pub ready-more : (s : Sponge) {a : List ℕ} {p : ℕ} → s .at < rate → a ≡ s .lanes → p ≡ s .at → sponge a p ≡ ready s
 unfolding ready
-ready-more s h e z = ap₂ sponge e z ∙ ap (λ t. pick t s (permuted (s .lanes))) (sym (lt-ltb (s .at) rate h))
+ready-more s h e z = ap₂ sponge e z ∙ ap (λ t. choose t s (permuted (s .lanes))) (sym (lt-ltb (s .at) rate h))
 
 pub ready-self : (s : Sponge) → s .at < rate → ready s ≡ s
 ready-self s h = sym (ready-more s h refl refl)

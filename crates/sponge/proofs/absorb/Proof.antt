@@ -1,4 +1,4 @@
--- `shake::absorb` meets its contract: at the loop's head the first j bytes of src are absorbed. Assumes nothing.
+-- `sponge::absorb` meets its contract: at the loop's head the first j bytes of src are absorbed. Assumes nothing.
 use mathlib.Core.Path.{_≡_, refl, ap, _∙_}
 use mathlib.Core.Logic.{⊎-elim}
 use Prim.Native.Nat.{_+_, _%_, _≤_, _<_, _-_}
@@ -7,12 +7,12 @@ use borrow.Author.Needs.{needs}
 use lib.ListN.{length, take}
 use lib.Seq.{take-all}
 use Rattle.slices.specs.Bytes.{bytes-of}
 use Rattle.shake.specs.Padding.{rate}
-use Rattle.shake.specs.Stream.{sponge, ready, absorbed}
-use Rattle.shake.proofs.Stream.{ready-full, ready-more, ready-room}
-use Rattle.shake.proofs.Input.{absorb-turn}
-use Rattle.shake.proofs.absorb.Statement.{statement}
-use Rattle.shake.proofs.absorb.Tie as tie
+use Rattle.sponge.specs.Stream.{sponge, ready, absorbed}
+use Rattle.sponge.proofs.Stream.{ready-full, ready-more, ready-room}
+use Rattle.sponge.proofs.Input.{absorb-turn}
+use Rattle.sponge.proofs.absorb.Statement.{statement}
+use Rattle.sponge.proofs.absorb.Tie as tie
 
 abbrev Inv-loop : tie.InvT-loop
 Inv-loop src lanes₀ at₀ j₀ lanes at j = (j ≤ length src) × (sponge lanes at ≡ absorbed (sponge lanes₀ at₀) (take j src))

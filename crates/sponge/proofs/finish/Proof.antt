@@ -1,4 +1,4 @@
--- `shake::finish` meets its contract: the two stores are the two bytes of the padding. Assumes nothing.
+-- `sponge::finish` meets its contract: the two stores are the two bytes of the padding. Assumes nothing.
 use mathlib.Core.Path.{_≡_, ap, _∙_}
 use mathlib.Core.Logic.{⊎-elim}
 use Prim.Native.Nat.{_<_, _-_}
@@ -6,12 +6,12 @@ use native.Mathlib.Omega.{arith}
 use borrow.Author.Needs.{needs}
 use lib.Dec.{lit<}
 use Rattle.keccak.specs.Keccak.{keccakF}
 use Rattle.shake.specs.Padding.{rate}
-use Rattle.shake.specs.Stream.{sponge, permuted, xorAt, ready, ended, finished}
-use Rattle.shake.proofs.Stream.{ready-full, ready-more, ready-room}
-use Rattle.shake.proofs.Input.{xorAt-shifted}
-use Rattle.shake.proofs.finish.Statement.{statement}
-use Rattle.shake.proofs.finish.Tie as tie
+use Rattle.sponge.specs.Stream.{sponge, permuted, xorAt, ready, ended, finished}
+use Rattle.sponge.proofs.Stream.{ready-full, ready-more, ready-room}
+use Rattle.sponge.proofs.Input.{xorAt-shifted}
+use Rattle.sponge.proofs.finish.Statement.{statement}
+use Rattle.sponge.proofs.finish.Tie as tie
 
 -- past the branch the sponge is ready for a byte
 is-ready : (c : tie.Joined1) → sponge (c .if1 .lanes) (c .if1 .at) ≡ ready (c .before .before .args .s)

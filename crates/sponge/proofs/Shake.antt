@@ -1,25 +1,23 @@
--- For a message of bytes the stream's output is SHAKE128's, which is as long as was asked for, and bytes. Assumes nothing.
+-- For a message of bytes the stream's output is SHAKE128's. Assumes nothing.
 use mathlib.Core.Path.{_≡_, refl, sym, ap, ap₂, _∙_}
 use mathlib.Core.List.{List, [], _∷_, _++_}
 use Prim.Native.Nat.{ℕ, zero, suc, _+_, _-_, _*_, _/_, _%_, _≤_, _<_}
 use native.Mathlib.Nat.{zero-add}
 use native.Mathlib.Omega.{arith}
-use lib.ListN.{length, getD, take, drop, replicate, length-append, length-drop, take-append-drop}
+use lib.ListN.{length, take, drop, replicate, length-append, length-drop, take-append-drop}
 use lib.Seq.{take-all, take-append-le, drop-append-le, length-take-le}
-use Rattle.slices.specs.Lists.{tab}
-use Rattle.slices.specs.Bytes.{Bytes, Sized, nil-bytes, append-bytes, take-bytes, drop-bytes, tab-bytes}
-use Rattle.slices.specs.Numbers.{bytesOf-bytes}
+use Rattle.slices.specs.Bytes.{Bytes, append-bytes, take-bytes, drop-bytes}
 use Rattle.keccak.specs.Keccak.{keccakF}
 use Rattle.keccak.specs.Laws.{length-keccakF}
-use Rattle.shake.specs.declared.Sponge.{Sponge}
+use Rattle.sponge.specs.declared.Sponge.{Sponge}
 use Rattle.shake.specs.Padding.{rate, padding}
-use Rattle.shake.specs.Shake128.{byteOf, padded, xorBlock, absorbBlocks, squeezeBlocks, shake128}
-use Rattle.shake.specs.Stream.{sponge, empty, permuted, absorbByte, absorbed, ended, finished, squeezed, streamed}
-use Rattle.shake.proofs.Stream.{absorbed-append, ready-self}
-use Rattle.shake.proofs.Lanes.{addAt, addAt-append, length-addAt, addAt-block}
-use Rattle.shake.proofs.Input.{absorbed-addAt}
-use Rattle.shake.proofs.Padding.{padding-bytes, length-padding, addAt-padding}
-use Rattle.shake.proofs.Output.{ready-next, squeezed-blocks}
+use Rattle.shake.specs.Shake128.{padded, xorBlock, absorbBlocks, shake128}
+use Rattle.sponge.specs.Stream.{sponge, empty, permuted, absorbByte, absorbed, ended, finished, squeezed, streamed}
+use Rattle.sponge.proofs.Stream.{absorbed-append, ready-self}
+use Rattle.sponge.proofs.Lanes.{addAt, addAt-append, length-addAt, addAt-block}
+use Rattle.sponge.proofs.Input.{absorbed-addAt}
+use Rattle.sponge.proofs.Padding.{padding-bytes, length-padding, addAt-padding}
+use Rattle.sponge.proofs.Output.{ready-next, squeezed-blocks}
 
 -- ---- the input, by blocks
 
@@ -86,28 +84,3 @@ streamed-shake m n hm =
 pub output : {s₁ s₂ : Sponge} (m : List ℕ) (n : ℕ) → Bytes m → s₁ ≡ absorbed empty m → s₂ ≡ finished s₁ → squeezed s₂ n ≡ shake128 m n
 unfolding streamed
 output m n hm p q = ap (λ s. squeezed s n) (q ∙ ap finished p) ∙ streamed-shake m n hm
-
--- ---- n bytes
-
-length-blocks : (n : ℕ) (a : List ℕ) → length (squeezeBlocks n a) ≡ n * rate
-unfolding squeezeBlocks
-length-blocks zero a = refl
-length-blocks (suc n) a =
-    length-append (tab (byteOf a) rate) (squeezeBlocks n (keccakF a)) ∙ rw (length-blocks n (keccakF a)) (omega arith)
-
-pub length-shake : (m : List ℕ) (n : ℕ) → length (shake128 m n) ≡ n
-unfolding shake128
-length-shake m n = length-take-le n (squeezeBlocks (n / rate + 1) _) (rw (length-blocks (n / rate + 1) _) (omega arith))
-
-byteOf-lt : (a : List ℕ) (p : ℕ) → byteOf a p < 256
-unfolding byteOf
-byteOf-lt a p = bytesOf-bytes 8 (getD a (p / 8) 0) .lt (p % 8)
-
-blocks-bytes : (n : ℕ) (a : List ℕ) → Bytes (squeezeBlocks n a)
-unfolding squeezeBlocks
-blocks-bytes zero a = nil-bytes
-blocks-bytes (suc n) a = append-bytes (tab-bytes rate (byteOf-lt a)) (blocks-bytes n (keccakF a))
-
-pub sized-shake : (m : List ℕ) (n : ℕ) → Sized n (shake128 m n)
-unfolding shake128
-sized-shake m n = record { size = length-shake m n; bytes = take-bytes n _ (blocks-bytes (n / rate + 1) _) }

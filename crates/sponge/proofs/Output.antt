@@ -10,16 +10,16 @@ use lib.ListN.{length, getD, take}
 use lib.Pow.{shr-shr}
 use lib.Seq.{take-at, drop-length}
 use Rattle.slices.specs.Lists.{tab, put}
-use Rattle.slices.specs.Tab.{tab-cong, tab-list}
+use Rattle.slices.specs.Tab.{tab-cong, tab-sized}
 use Rattle.slices.specs.Numbers.{bytesOf, length-bytesOf, getD-bytesOf}
 use Rattle.slices.proofs.Put.{Wrote, wrote-more, wrote-all}
 use Rattle.keccak.specs.Keccak.{keccakF}
-use Rattle.shake.specs.declared.Sponge.{Sponge}
+use Rattle.sponge.specs.declared.Sponge.{Sponge}
 use Rattle.shake.specs.Padding.{rate}
 use Rattle.shake.specs.Shake128.{byteOf, squeezeBlocks}
-use Rattle.shake.specs.Stream.{sponge, ready, past, squeezed, rest}
-use Rattle.shake.proofs.Stream.{squeezed-add, rest-add, length-squeezed, ready-full, ready-more, ready-self, ready-room}
-use Rattle.shake.proofs.Stream.{squeezed-ready, rest-ready}
+use Rattle.sponge.specs.Stream.{sponge, ready, past, squeezed, rest}
+use Rattle.sponge.proofs.Stream.{squeezed-add, rest-add, length-squeezed, ready-full, ready-more, ready-self, ready-room}
+use Rattle.sponge.proofs.Stream.{squeezed-ready, rest-ready}
 
 -- ---- within a block
 
@@ -50,7 +50,7 @@ fromLane a p w = bytesOf w (getD a (p / 8) 0 / 2 ^ (8 * (p % 8)))
 
 lane-bytes : (a : List ℕ) (p w : ℕ) → p % 8 + w ≤ 8 → tab (λ i. byteOf a (p + i)) w ≡ fromLane a p w
 unfolding byteOf
-lane-bytes a p w h = tab-cong w same ∙ ap (tab (λ k. getD (bytesOf w y) k 0)) (sym (length-bytesOf w y)) ∙ tab-list (bytesOf w y)
+lane-bytes a p w h = tab-cong w same ∙ tab-sized (bytesOf w y) (length-bytesOf w y)
   where
     x : ℕ
     x = getD a (p / 8) 0

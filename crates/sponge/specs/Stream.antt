@@ -1,15 +1,15 @@
 -- The sponge of SHAKE128 taken a byte at a time. The state is the 25 lanes with the place, counted in bytes, at which the next byte goes in
 -- or comes out; a full block is permuted when one more byte is asked for. `streamed-shake` of proofs/Shake ties it to FIPS 202.
-use mathlib.Core.Bool.{Bool, true, false}
 use mathlib.Core.List.{List, [], _∷_}
 use Prim.Native.Nat.{ℕ, zero, suc, _+_, _-_, _*_, _/_, _%_, _^_}
 use lib.Bits.{bitXor}
 use lib.Dec.{ltb}
 use lib.ListN.{getD, set, replicate}
+use Rattle.slices.specs.Lists.{choose}
 use Rattle.keccak.specs.Keccak.{keccakF}
 use Rattle.shake.specs.Padding.{rate}
 use Rattle.shake.specs.Shake128.{byteOf}
-use Rattle.shake.specs.declared.Sponge.{Sponge}
+use Rattle.sponge.specs.declared.Sponge.{Sponge}
 
 abbrev pub sponge : List ℕ → ℕ → Sponge
 sponge a p = record { lanes = a; at = p }
@@ -20,13 +20,9 @@ empty = sponge (replicate 25 0) 0
 unfoldable pub permuted : List ℕ → Sponge
 permuted a = sponge (keccakF a) 0
 
-abbrev pub pick : Bool → Sponge → Sponge → Sponge
-pick true s t = s
-pick false s t = t
-
 -- ready for one more byte: permuted where the block is full, or spent
 unfoldable pub ready : Sponge → Sponge
-ready s = pick (ltb (s .at) rate) s (permuted (s .lanes))
+ready s = choose (ltb (s .at) rate) s (permuted (s .lanes))
 
 -- ---- input
 

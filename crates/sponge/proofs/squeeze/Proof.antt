@@ -1,4 +1,4 @@
--- `shake::squeeze` meets its contract: at the loop's head the first j bytes of output are written. Assumes nothing.
+-- `sponge::squeeze` meets its contract: at the loop's head the first j bytes of output are written. Assumes nothing.
 use mathlib.Core.Path.{_≡_, refl, ap, _∙_}
 use mathlib.Core.Logic.{⊎-elim}
 use Prim.Native.Nat.{_+_, _%_, _≤_, _<_, _-_}
@@ -6,12 +6,12 @@ use native.Mathlib.Omega.{arith}
 use borrow.Author.Needs.{needs}
 use lib.ListN.{length}
 use Rattle.slices.proofs.Put.{Wrote, wrote-none}
 use Rattle.shake.specs.Padding.{rate}
-use Rattle.shake.specs.Stream.{sponge, ready, squeezed, rest}
-use Rattle.shake.proofs.Stream.{ready-full, ready-more, ready-room}
-use Rattle.shake.proofs.Output.{rest-turn, squeeze-turn, squeeze-end}
-use Rattle.shake.proofs.squeeze.Statement.{statement}
-use Rattle.shake.proofs.squeeze.Tie as tie
+use Rattle.sponge.specs.Stream.{sponge, ready, squeezed, rest}
+use Rattle.sponge.proofs.Stream.{ready-full, ready-more, ready-room}
+use Rattle.sponge.proofs.Output.{rest-turn, squeeze-turn, squeeze-end}
+use Rattle.sponge.proofs.squeeze.Statement.{statement}
+use Rattle.sponge.proofs.squeeze.Tie as tie
 
 abbrev Inv-loop : tie.InvT-loop
 Inv-loop out₀ lanes₀ at₀ j₀ out lanes at j =

@@ -14,9 +14,9 @@ use Rattle.slices.specs.Tab.{tab-cong}
 use Rattle.slices.specs.Bytes.{Bytes, tail-bytes, take-bytes, drop-bytes}
 use Rattle.slices.specs.Numbers.{number}
 use Rattle.slices.specs.Xor.{xor-assoc, xor-shl}
 use Rattle.shake.specs.Padding.{rate}
 use Rattle.shake.specs.Shake128.{laneOf, xorBlock}
-use Rattle.shake.specs.Stream.{xorAt}
+use Rattle.sponge.specs.Stream.{xorAt}
 
 -- the lanes a with the bytes q added from byte p on
 unfoldable pub addAt : List ℕ → ℕ → List ℕ → List ℕ

@@ -12,11 +12,11 @@ use lib.Seq.{take-add, length-take-le}
 use Rattle.slices.specs.Lists.{part}
 use Rattle.slices.specs.Bytes.{Bytes, part-bytes}
 use Rattle.slices.specs.Numbers.{number, number-lt}
-use Rattle.shake.specs.declared.Sponge.{Sponge}
+use Rattle.sponge.specs.declared.Sponge.{Sponge}
 use Rattle.shake.specs.Padding.{rate}
-use Rattle.shake.specs.Stream.{sponge, xorAt, ready, absorbByte, absorbed}
-use Rattle.shake.proofs.Stream.{absorbed-append, ready-self, ready-room, absorbed-ready}
-use Rattle.shake.proofs.Lanes.{addAt, addAt-lane}
+use Rattle.sponge.specs.Stream.{sponge, xorAt, ready, absorbByte, absorbed}
+use Rattle.sponge.proofs.Stream.{absorbed-append, ready-self, ready-room, absorbed-ready}
+use Rattle.sponge.proofs.Lanes.{addAt, addAt-lane}
 
 pub absorbed-addAt : (q a : List ℕ) (p : ℕ) → p + length q ≤ rate → absorbed (sponge a p) q ≡ sponge (addAt a p q) (p + length q)
 unfolding absorbed absorbByte addAt
