@@ -3,6 +3,10 @@
 
 The ciphertexts are the package `cryptography`'s. The S-boxes' inputs are worked out here, by the standard's own steps on words and bytes, and the
 ciphertext that these give is compared with the package's.
+
+The lines of stdin: 1 is FIPS 197's Appendix B, 2 its C.1; 3 to 6 are SP 800-38A's F.1.1; 7 to 18 are of zeros, of ones and of single bits; 19 to 23
+are from NIST's lists of known answers (GFSbox, KeySbox); 24 to 27 have a zero among the key's bytes 12 to 15, which the first S-boxes are given;
+the other 21 were drawn at random.
 """
 import os
 

@@ -1,6 +1,6 @@
 // Reads lines of a key and a plaintext in hexadecimal, and writes each with its ciphertext and the first S-box that is given zero, 200 where
-// there is none. The first line is FIPS 197's Appendix B, the second its C.1; the next four are SP 800-38A's F.1.1. At the end it writes what
-// the S-boxes are given for the first line, a round a line: the key schedule's word after RotWord() (A.1) and the state at the round's start (B).
+// there is none. At the end it writes what the S-boxes are given for the first line, a round a line: the key schedule's word after RotWord()
+// (A.1) and the state at the round's start (B). vectors/aes.py says where the lines are from.
 use libc::STDIN_FILENO;
 use libc::STDOUT_FILENO;
 ghost use mathlib.Core.Path.{_≡_};
