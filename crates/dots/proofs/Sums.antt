@@ -2,9 +2,7 @@
 use mathlib.Core.Path.{_≡_, refl, sym, ap, ap₂, _∙_}
 use mathlib.Core.List.{List}
 use Prim.Native.Nat.{ℕ, suc, _+_, _*_, _/_, _%_, _≤_, _<_}
-use native.Mathlib.Nat.{mul-suc, mul-le-mul-left}
 use native.Mathlib.Numerals.{add-one}
-use native.Mathlib.Omega.{arith}
 use lib.Bits.{bitXor, xor-zero-r}
 use lib.ListN.{length, getD, drop, drop-of-length-le}
 use lib.Seq.{drop-cons}
@@ -22,7 +20,8 @@ module _ (w low : ℕ) (f g : ℕ → ℕ) where
   unfolding dotProduct sum
   dot-none = refl
 
-  pub dot-more : (n : ℕ) {s t : ℕ} → s ≡ dotProduct w low n f g → t ≡ mul w low (f n) (g n) → bitXor s t ≡ dotProduct w low (n + 1) f g
+  pub dot-more : (n : ℕ) {s t : ℕ} → s ≡ dotProduct w low n f g → t ≡ mul w low (f n) (g n)
+      → bitXor s t ≡ dotProduct w low (n + 1) f g
   unfolding dotProduct sum
   dot-more n p q = ap₂ bitXor p q ∙ ap (λ i. dotProduct w low i f g) (sym (add-one n))
 
@@ -37,10 +36,6 @@ module _ (f : ℕ → ℕ) (t : List ℕ) where
       → bitXor s e ≡ tabled (n + 1) f t
   unfolding tabled
   tabled-more n p q = ap₂ bitXor p q ∙ ap (λ i. tabled i f t) (sym (add-one n))
-
--- the place of a byte: cell k of m rows fits
-pub cell-fits : (m k n : ℕ) → k < n → m * k + m ≤ m * n
-cell-fits m k n h = omega (arith, mul-suc m k, mul-le-mul-left m h)
 
 -- ---- a combination: the sum so far, and what the rest of the bits add to it
 

@@ -97,14 +97,14 @@ pub fn tables(bits: u32, low: u64, powers: &[u64], coefficients: &[u64], out: &m
     }
 }
 
-// The sum over k < rows of coefficient k times the lift of byte j + m1 k, by the coefficients' tables.
+// The sum over k < rows of coefficient k times the lift of byte j + k m1, by the coefficients' tables.
 pub fn dot_tables(tables: &[u64], bytes: &[u8], rows: usize, m1: usize, j: usize) -> u64
-    requires { ⌜ (rows * 32 ≤ length (now tables)) × (m1 * rows ≤ length (now bytes)) × (j < m1) ⌝ }
-    ensures { λ r. ⌜ r ≡ tabled rows (λ k. getD (now (bytes .entry)) (j + m1 * k) 0) (now (tables .entry)) ⌝ }
+    requires { ⌜ (rows * 32 ≤ length (now tables)) × (rows * m1 ≤ length (now bytes)) × (j < m1) ⌝ }
+    ensures { λ r. ⌜ r ≡ tabled rows (λ k. getD (now (bytes .entry)) (j + k * m1) 0) (now (tables .entry)) ⌝ }
 {
     let mut sum: u64 = 0;
     for k in 0..rows {
-        let b = bytes[j + m1 * k];
+        let b = bytes[j + k * m1];
         sum = sum ^ entries(tables, k, b);
     }
     sum
