@@ -10,20 +10,28 @@ use Rattle.slices.specs.Xor.{xor-assoc}
 use Rattle.poly.specs.Sum.{sum}
 use Rattle.field.specs.Linear.{pick, combine}
 use Rattle.field.specs.Ring.{mul}
+use Rattle.field.specs.Wide.{ops}
 use Rattle.lagrange.specs.Values.{dotProduct}
 use Rattle.dots.specs.Tables.{tabled}
 
 -- ---- dot products
 
-module _ (w low : ℕ) (f g : ℕ → ℕ) where
-  pub dot-none : 0 ≡ dotProduct w low 0 f g
-  unfolding dotProduct sum
+module _ (w low : ℕ) (v c : List ℕ) where
+  -- the sum over the first n values
+  unfoldable pub dotted : ℕ → ℕ
+  dotted n = sum (ops w low) n (λ k. mul w low (getD v k 0) (getD c k 0))
+
+  pub dot-none : 0 ≡ dotted 0
+  unfolding dotted sum
   dot-none = refl
 
-  pub dot-more : (n : ℕ) {s t : ℕ} → s ≡ dotProduct w low n f g → t ≡ mul w low (f n) (g n)
-      → bitXor s t ≡ dotProduct w low (n + 1) f g
-  unfolding dotProduct sum
-  dot-more n p q = ap₂ bitXor p q ∙ ap (λ i. dotProduct w low i f g) (sym (add-one n))
+  pub dot-more : (n : ℕ) {s t : ℕ} → s ≡ dotted n → t ≡ mul w low (getD v n 0) (getD c n 0) → bitXor s t ≡ dotted (n + 1)
+  unfolding dotted sum
+  dot-more n p q = ap₂ bitXor p q ∙ ap dotted (sym (add-one n))
+
+  pub dot-all : {n s : ℕ} → s ≡ dotted n → n ≡ length v → s ≡ dotProduct w low v c
+  unfolding dotted dotProduct
+  dot-all p e = p ∙ ap dotted e
 
 -- ---- by tables
 

@@ -1,6 +1,6 @@
 -- Dot products of fixed coefficients with lifted bytes, by tables. A lift is a combination of the powers of y, so coefficient times lift(b)
 -- is linear in b: it is the sum of an entry for the low four bits of b and one for the high four, in two tables of 16 entries for each
--- coefficient. Assumes nothing.
+-- coefficient. With Lagrange's values as coefficients the sum is a value of the interpolating polynomial. Assumes nothing.
 use mathlib.Core.Path.{_≡_, refl, sym, ap, ap₂, _∙_}
 use mathlib.Core.List.{List, _++_, map}
 use Prim.Native.Nat.{ℕ, zero, suc, _+_, _*_, _/_, _%_, _^_, _≤_, _<_}
@@ -16,7 +16,7 @@ use Rattle.poly.specs.Sum.{sum, sum-cong}
 use Rattle.field.specs.Linear.{combine, combine-map, combine-append, combine-low}
 use Rattle.field.specs.Ring.{mul}
 use Rattle.field.specs.Wide.{ops, Element}
-use Rattle.lagrange.specs.Values.{interpolated, lagrangeValue, dotProduct, dot-interpolated}
+use Rattle.lagrange.specs.Values.{interpolated, lagrangeValue, sum-interpolated}
 
 -- the two tables of eight numbers: the combinations of the first four, and of the last four
 unfoldable pub halves : List ℕ → List ℕ
@@ -71,22 +71,22 @@ module _ (w low : ℕ) (F : BinaryField (ops w low) (Element w)) (powers : List 
         entry i h = ap (λ t. getD t (k * 32 + i) 0) e ∙ getD-rows 32 (λ k. tableOf w low powers (c k)) n (λ j. length-halves _) k i l h
 
     -- the tables give the sum of the lifted bytes times the coefficients
-    pub tabled-dot : (m : ℕ) {t : List ℕ} → t ≡ rows (λ k. tableOf w low powers (c k)) m → (n : ℕ) → n ≤ m
-        → tabled n f t ≡ dotProduct w low n (λ k. combine powers (f k)) c
-    unfolding tabled dotProduct sum
-    tabled-dot m e zero l = refl
-    tabled-dot m e (suc n) l = ap₂ bitXor (tabled-dot m e n (omega arith)) (entries m n e (omega arith))
+    pub tabled-sum : (m : ℕ) {t : List ℕ} → t ≡ rows (λ k. tableOf w low powers (c k)) m → (n : ℕ) → n ≤ m
+        → tabled n f t ≡ sum (ops w low) n (λ k. mul w low (combine powers (f k)) (c k))
+    unfolding tabled sum
+    tabled-sum m e zero l = refl
+    tabled-sum m e (suc n) l = ap₂ bitXor (tabled-sum m e n (omega arith)) (entries m n e (omega arith))
 
   -- With Lagrange's values as coefficients: the value at x of the polynomial through n lifted bytes, and through s at point n.
   pub tabled-interpolated : (n x : ℕ) → n < 2 ^ w → Element w x → (s : ℕ) {t : List ℕ}
       → t ≡ rows (λ k. tableOf w low powers (lagrangeValue w low (suc n) x k)) n
       → bitXor (tabled n f t) (mul w low s (lagrangeValue w low (suc n) x n))
       ≡ interpolated w low (suc n) (λ k. at k n s (combine powers (f k))) x
-  unfolding dotProduct sum
+  unfolding sum
   tabled-interpolated n x points h s e =
       let c = lagrangeValue w low (suc n) x in
       ap₂ bitXor
-      (tabled-dot c n e n (omega arith)
+      (tabled-sum c n e n (omega arith)
       ∙ sum-cong (ops w low) n (λ k l. ap (λ a. mul w low a (c k)) (sym (at-other k n s (combine powers (f k)) (omega arith)))))
       (ap (λ a. mul w low a (c n)) (sym (at-same n n s (combine powers (f n)) refl)))
-      ∙ dot-interpolated w low F (suc n) (omega arith) x h (λ k. at k n s (combine powers (f k)))
+      ∙ sum-interpolated w low F (suc n) (omega arith) x h (λ k. at k n s (combine powers (f k)))

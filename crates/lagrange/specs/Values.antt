@@ -2,9 +2,13 @@
 -- them is the value at x of the interpolating polynomial. In the field of X^w + low; "points are wide elements with those numbers".
 -- Assumes nothing.
 use mathlib.Core.Path.{_≡_, refl, sym, ap, _∙_, subst}
+use mathlib.Core.List.{List}
 use Prim.Native.Nat.{ℕ, zero, suc, _≤_, _<_, _^_}
 use native.Mathlib.Omega.{arith}
 use lib.Bits.{bitXor}
+use lib.ListN.{length, getD}
+use Rattle.slices.specs.Lists.{tab}
+use Rattle.slices.specs.Tab.{getD-tab}
 use Rattle.poly.specs.Index.{at, at-same, at-other}
 use Rattle.poly.specs.Field.{BinaryField, zero-mul, mul-comm}
 use Rattle.poly.specs.Sum.{sum, sum-cong, sum-only}
@@ -22,9 +26,9 @@ module _ (w low : ℕ) where
   unfoldable pub lagrangeValue : ℕ → ℕ → ℕ → ℕ
   lagrangeValue n x k = interpolated n (λ i. at i k 1 0) x
 
-  -- f 0 g 0 + .. + f (n - 1) g (n - 1)
-  unfoldable pub dotProduct : ℕ → (ℕ → ℕ) → (ℕ → ℕ) → ℕ
-  dotProduct n f g = sum (ops w low) n (λ k. mul w low (f k) (g k))
+  -- the sum of value k times coefficient k, over the values
+  unfoldable pub dotProduct : List ℕ → List ℕ → ℕ
+  dotProduct v c = sum (ops w low) (length v) (λ k. mul w low (getD v k 0) (getD c k 0))
 
   -- the product of x - i over i < n
   unfoldable pub upto : ℕ → ℕ → ℕ
@@ -47,6 +51,14 @@ module _ (w low : ℕ) (F : BinaryField (ops w low) (Element w)) (n : ℕ) (poin
       ∙ ap (λ a. mul w low a (basis (ops w low) (λ i. i) k n x)) (at-same k k 1 0 refl) ∙ mul-comm F 1 _ ∙ F .mul-one _ (elem-value k l)
 
   -- the sum of the values v k times Lagrange's values
-  pub dot-interpolated : (v : ℕ → ℕ) → dotProduct w low n v (lagrangeValue w low n x) ≡ interpolated w low n v x
-  unfolding dotProduct interpolated lagrange
-  dot-interpolated v = sum-cong (ops w low) n (λ k l. ap (mul w low (v k)) (value-basis k l)) ∙ sym (eval-interpolate F (λ i. i) n v x)
+  pub sum-interpolated : (v : ℕ → ℕ) → sum (ops w low) n (λ k. mul w low (v k) (lagrangeValue w low n x k)) ≡ interpolated w low n v x
+  unfolding interpolated lagrange
+  sum-interpolated v = sum-cong (ops w low) n (λ k l. ap (mul w low (v k)) (value-basis k l)) ∙ sym (eval-interpolate F (λ i. i) n v x)
+
+  pub dot-interpolated : (v : List ℕ) → length v ≡ n
+      → dotProduct w low v (tab (lagrangeValue w low n x) n) ≡ interpolated w low n (λ k. getD v k 0) x
+  unfolding dotProduct
+  dot-interpolated v e =
+      ap (λ m. sum (ops w low) m (λ k. mul w low (getD v k 0) (getD (tab (lagrangeValue w low n x) n) k 0))) e
+      ∙ sum-cong (ops w low) n (λ k l. ap (mul w low (getD v k 0)) (getD-tab (lagrangeValue w low n x) n k 0 l))
+      ∙ sum-interpolated (λ k. getD v k 0)
