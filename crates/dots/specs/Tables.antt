@@ -33,7 +33,7 @@ tabled (suc n) f t = bitXor (tabled n f t) (bitXor (getD t (n * 32 + f n % 16) 0
 
 -- ---- laws
 
-pub length-halves : (p : List ℕ) → length (halves p) ≡ 32
+length-halves : (p : List ℕ) → length (halves p) ≡ 32
 unfolding halves
 length-halves p = refl
 
