@@ -141,7 +141,8 @@ module _ (w : ℕ) (_·_ : ℕ → ℕ → ℕ) where
 
           half-zero : e / 2 * 2 ≡ 0
           half-zero =
-              sym (undone e (mod-eq-of-lt h)) ∙ ap (λ x. combine table (bitXor x e)) i ∙ ap (combine table) (xor-self e) ∙ additive-zero (combined table)
+              sym (undone e (mod-eq-of-lt h)) ∙ ap (λ x. combine table (bitXor x e)) i ∙ ap (combine table) (xor-self e)
+              ∙ additive-zero (combined table)
 
       unit : (a : ℕ) → inverse a · a · a ≡ a % 2 ^ w
       unfolding inverse ones-power iterate

@@ -4,7 +4,6 @@ use libc::STDOUT_FILENO;
 ghost use mathlib.Core.Path.{_≡_};
 ghost use Prim.Native.Nat.{_<_, _^_};
 ghost use lib.ListN.{length};
-ghost use Rattle.field.specs.Fits.{Fits};
 
 fn wide(x: u8) -> u64 {
     x as u64

@@ -1,6 +1,5 @@
 -- `gf::powers32` answers the powers of y: the two lists, computed, are one. Assumes nothing.
 use mathlib.Core.Path.{refl}
-use borrow.Author.Needs.{needs}
 use Rattle.field.specs.Wide32.{powers32}
 use Rattle.gf.proofs.powers32.Statement.{statement}
 use Rattle.gf.proofs.powers32.Tie as tie

@@ -1,6 +1,5 @@
 -- `gf::powers48` answers the powers of y: the two lists, computed, are one. Assumes nothing.
 use mathlib.Core.Path.{refl}
-use borrow.Author.Needs.{needs}
 use Rattle.field.specs.Wide48.{powers48}
 use Rattle.gf.proofs.powers48.Statement.{statement}
 use Rattle.gf.proofs.powers48.Tie as tie
