@@ -13,7 +13,7 @@ use Rattle.poly.specs.Index.{at, at-same, at-other}
 use Rattle.poly.specs.Field.{BinaryField, zero-mul, mul-comm}
 use Rattle.poly.specs.Sum.{sum, sum-cong, sum-only}
 use Rattle.poly.specs.Poly.{eval, elem-eval}
-use Rattle.poly.specs.Lagrange.{numbers, basisPoly, interpolate, basis, lagrange, elem-basis, eval-basis, eval-interpolate}
+use Rattle.poly.specs.Lagrange.{number-points, basisPoly, interpolate, basis, lagrange, elem-basis, eval-basis, eval-interpolate}
 use Rattle.field.specs.Ring.{mul}
 use Rattle.field.specs.Wide.{ops, Element}
 
@@ -41,7 +41,7 @@ module _ (w low : ℕ) (F : BinaryField (ops w low) (Element w)) (n : ℕ) (poin
   elem-value : (k : ℕ) → k < n → Element w (basis (ops w low) (λ i. i) k n x)
   elem-value k l =
       subst (Element w) (eval-basis F (λ i. i) k n x)
-      (elem-eval F (basisPoly (ops w low) (λ i. i) k n) x (elem-basis F (λ i. i) (numbers n (2 ^ w) points) k n l (omega arith)) h)
+      (elem-eval F (basisPoly (ops w low) (λ i. i) k n) x (elem-basis F (λ i. i) (number-points n (2 ^ w) points) k n l (omega arith)) h)
 
   pub value-basis : (k : ℕ) → k < n → lagrangeValue w low n x k ≡ basis (ops w low) (λ i. i) k n x
   unfolding lagrangeValue interpolated lagrange
