@@ -1,6 +1,6 @@
--- Lagrange's values: what the polynomials that are one at one of the points 0 to n - 1 and zero at the others are at x. A dot product with
--- them is the value at x of the interpolating polynomial. In the field of X^w + low; "points are wide elements with those numbers".
--- Assumes nothing.
+-- The values at x of Lagrange's basis polynomials for the points 0 to n - 1: polynomial k is one at k and zero at the others. A dot
+-- product with them is the value at x of the interpolating polynomial. In the field of X^w + low; "points are wide elements with those
+-- numbers". Assumes nothing.
 use mathlib.Core.Path.{_≡_, refl, sym, ap, _∙_, subst}
 use mathlib.Core.List.{List}
 use Prim.Native.Nat.{ℕ, zero, suc, _≤_, _<_, _^_}
@@ -22,7 +22,7 @@ module _ (w low : ℕ) where
   unfoldable pub interpolated : ℕ → (ℕ → ℕ) → ℕ → ℕ
   interpolated n v x = eval (ops w low) (interpolate (ops w low) (λ i. i) n v) x
 
-  -- for the values one at k and zero elsewhere
+  -- Lagrange's value k: for the values one at k and zero elsewhere
   unfoldable pub lagrangeValue : ℕ → ℕ → ℕ → ℕ
   lagrangeValue n x k = interpolated n (λ i. at i k 1 0) x
 
