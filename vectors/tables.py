@@ -87,7 +87,7 @@ def main():
             found = re.findall(pattern, source.read())
         same = len(found) == 1 and [int(x, 0) for x in re.findall(r'\w+', found[0])] == entries
         if not same or 'all' in sys.argv[1:]:
-            print('crates/%s, %s%s:' % (file, name, '' if same else ', differs; it is'), *entries)
+            print('crates/%s, %s%s:' % (file, name, '' if same else ', differs; it should be'), *entries)
         agree = agree and same
     if agree:
         print('all tables agree')
