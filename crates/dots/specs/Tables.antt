@@ -71,11 +71,11 @@ module _ (w low : ℕ) (F : BinaryField (ops w low) (Element w)) (powers : List 
         entry i h = ap (λ t. getD t (k * 32 + i) 0) e ∙ getD-rows 32 (λ k. tableOf w low powers (c k)) n (λ j. length-halves _) k i l h
 
     -- the tables give the sum of the lifted bytes times the coefficients
-    pub tabled-sum : (m : ℕ) {t : List ℕ} → t ≡ rows (λ k. tableOf w low powers (c k)) m → (n : ℕ) → n ≤ m
+    pub tabled-dot : (m : ℕ) {t : List ℕ} → t ≡ rows (λ k. tableOf w low powers (c k)) m → (n : ℕ) → n ≤ m
         → tabled n f t ≡ sum (ops w low) n (λ k. mul w low (combine powers (f k)) (c k))
     unfolding tabled sum
-    tabled-sum m e zero l = refl
-    tabled-sum m e (suc n) l = ap₂ bitXor (tabled-sum m e n (omega arith)) (entries m n e (omega arith))
+    tabled-dot m e zero l = refl
+    tabled-dot m e (suc n) l = ap₂ bitXor (tabled-dot m e n (omega arith)) (entries m n e (omega arith))
 
   -- With Lagrange's values as coefficients: the value at x of the polynomial through n lifted bytes, and through s at point n.
   pub tabled-interpolated : (n x : ℕ) → n < 2 ^ w → Element w x → (s : ℕ) {t : List ℕ}
@@ -86,7 +86,7 @@ module _ (w low : ℕ) (F : BinaryField (ops w low) (Element w)) (powers : List 
   tabled-interpolated n x points h s e =
       let c = lagrangeValue w low (suc n) x in
       ap₂ bitXor
-      (tabled-sum c n e n (omega arith)
+      (tabled-dot c n e n (omega arith)
       ∙ sum-cong (ops w low) n (λ k l. ap (λ a. mul w low a (c k)) (sym (at-other k n s (combine powers (f k)) (omega arith)))))
       (ap (λ a. mul w low a (c n)) (sym (at-same n n s (combine powers (f n)) refl)))
       ∙ sum-interpolated w low F (suc n) (omega arith) x h (λ k. at k n s (combine powers (f k)))
