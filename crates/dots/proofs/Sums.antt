@@ -2,9 +2,7 @@
 use mathlib.Core.Path.{_≡_, refl, sym, ap, ap₂, _∙_}
 use mathlib.Core.List.{List}
 use Prim.Native.Nat.{ℕ, suc, _+_, _*_, _/_, _%_, _≤_, _<_}
-use native.Mathlib.Nat.{mul-suc, mul-le-mul-left}
 use native.Mathlib.Numerals.{add-one}
-use native.Mathlib.Omega.{arith}
 use lib.Bits.{bitXor, xor-zero-r}
 use lib.ListN.{length, getD, drop, drop-of-length-le}
 use lib.Seq.{drop-cons}
@@ -12,19 +10,28 @@ use Rattle.slices.specs.Xor.{xor-assoc}
 use Rattle.poly.specs.Sum.{sum}
 use Rattle.field.specs.Linear.{pick, combine}
 use Rattle.field.specs.Ring.{mul}
+use Rattle.field.specs.Wide.{ops}
 use Rattle.lagrange.specs.Values.{dotProduct}
 use Rattle.dots.specs.Tables.{tabled}
 
 -- ---- dot products
 
-module _ (w low : ℕ) (f g : ℕ → ℕ) where
-  pub dot-none : 0 ≡ dotProduct w low 0 f g
-  unfolding dotProduct sum
+module _ (w low : ℕ) (v c : List ℕ) where
+  -- the sum over the first n values
+  unfoldable pub dotted : ℕ → ℕ
+  dotted n = sum (ops w low) n (λ k. mul w low (getD v k 0) (getD c k 0))
+
+  pub dot-none : 0 ≡ dotted 0
+  unfolding dotted sum
   dot-none = refl
 
-  pub dot-more : (n : ℕ) {s t : ℕ} → s ≡ dotProduct w low n f g → t ≡ mul w low (f n) (g n) → bitXor s t ≡ dotProduct w low (n + 1) f g
-  unfolding dotProduct sum
-  dot-more n p q = ap₂ bitXor p q ∙ ap (λ i. dotProduct w low i f g) (sym (add-one n))
+  pub dot-more : (n : ℕ) {s t : ℕ} → s ≡ dotted n → t ≡ mul w low (getD v n 0) (getD c n 0) → bitXor s t ≡ dotted (n + 1)
+  unfolding dotted sum
+  dot-more n p q = ap₂ bitXor p q ∙ ap dotted (sym (add-one n))
+
+  pub dot-all : {n s : ℕ} → s ≡ dotted n → n ≡ length v → s ≡ dotProduct w low v c
+  unfolding dotted dotProduct
+  dot-all p e = p ∙ ap dotted e
 
 -- ---- by tables
 
@@ -37,10 +44,6 @@ module _ (f : ℕ → ℕ) (t : List ℕ) where
       → bitXor s e ≡ tabled (n + 1) f t
   unfolding tabled
   tabled-more n p q = ap₂ bitXor p q ∙ ap (λ i. tabled i f t) (sym (add-one n))
-
--- the place of a byte: cell k of m rows fits
-pub cell-fits : (m k n : ℕ) → k < n → m * k + m ≤ m * n
-cell-fits m k n h = omega (arith, mul-suc m k, mul-le-mul-left m h)
 
 -- ---- a combination: the sum so far, and what the rest of the bits add to it
 

@@ -11,10 +11,10 @@ ghost use Rattle.field.specs.Fits.{Fits};
 ghost use Rattle.lagrange.specs.Values.{dotProduct};
 ghost use Rattle.dots.specs.Tables.{halves as halvesOf, tableOf, tabled};
 
-// The sum of coefficient k times value k, over the values.
+// The sum of value k times coefficient k, over the values.
 pub fn dot(bits: u32, low: u64, coefficients: &[u64], values: &[u64]) -> u64
     requires { ⌜ Fits bits low × (length (now values) ≤ length (now coefficients)) ⌝ }
-    ensures { λ r. ⌜ r ≡ dotProduct bits low (length (now (values .entry))) (λ k. getD (now (values .entry)) k 0) (λ k. getD (now (coefficients .entry)) k 0) ⌝ }
+    ensures { λ r. ⌜ r ≡ dotProduct bits low (now (values .entry)) (now (coefficients .entry)) ⌝ }
 {
     let mut sum: u64 = 0;
     for k in 0..values.len() {
@@ -88,7 +88,8 @@ fn table(bits: u32, low: u64, powers: &[u64], c: u64, out: &mut [u64])
 // The tables of each coefficient, one after the other; the lift of a byte is the combination of the eight powers.
 pub fn tables(bits: u32, low: u64, powers: &[u64], coefficients: &[u64], out: &mut [u64])
     requires { ⌜ Fits bits low × (length (now powers) ≡ 8) × (length (now out) ≡ length (now coefficients) * 32) ⌝ }
-    ensures { λ _. ⌜ now (out .exit) ≡ stacked (λ k. tableOf bits low (now (powers .entry)) (getD (now (coefficients .entry)) k 0)) (length (now (coefficients .entry))) ⌝ }
+    ensures { λ _. ⌜ now (out .exit)
+        ≡ stacked (λ k. tableOf bits low (now (powers .entry)) (getD (now (coefficients .entry)) k 0)) (length (now (coefficients .entry))) ⌝ }
 {
     for k in 0..coefficients.len() {
         let a = k * 32;
@@ -97,14 +98,14 @@ pub fn tables(bits: u32, low: u64, powers: &[u64], coefficients: &[u64], out: &m
     }
 }
 
-// The sum over k < rows of coefficient k times the lift of byte j + m1 k, by the coefficients' tables.
+// The sum over k < rows of coefficient k times the lift of byte j + k m1, by the coefficients' tables.
 pub fn dot_tables(tables: &[u64], bytes: &[u8], rows: usize, m1: usize, j: usize) -> u64
-    requires { ⌜ (rows * 32 ≤ length (now tables)) × (m1 * rows ≤ length (now bytes)) × (j < m1) ⌝ }
-    ensures { λ r. ⌜ r ≡ tabled rows (λ k. getD (now (bytes .entry)) (j + m1 * k) 0) (now (tables .entry)) ⌝ }
+    requires { ⌜ (rows * 32 ≤ length (now tables)) × (rows * m1 ≤ length (now bytes)) × (j < m1) ⌝ }
+    ensures { λ r. ⌜ r ≡ tabled rows (λ k. getD (now (bytes .entry)) (j + k * m1) 0) (now (tables .entry)) ⌝ }
 {
     let mut sum: u64 = 0;
     for k in 0..rows {
-        let b = bytes[j + m1 * k];
+        let b = bytes[j + k * m1];
         sum = sum ^ entries(tables, k, b);
     }
     sum

@@ -1,4 +1,5 @@
--- Binary fields as numbers. Definitions: Linear, Ring, Field, Lift, LeastRoot; the fields of document 01 and of slip 7: Byte, Wide32, Wide48.
+-- Binary fields as numbers. Definitions: Linear, Ring, Field, Wide, Lift, LeastRoot, Fits; the fields of document 01 and of slip 7: Byte,
+-- Wide32, Wide48.
 pub mod Linear
 pub mod Ring
 pub mod Field

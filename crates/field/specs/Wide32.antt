@@ -59,7 +59,7 @@ least32 =
     (0x621de75d ∷ 0x9c8bad52 ∷ 0xa2e260ca ∷ 0xb221b23e ∷ 0xbe3220f4 ∷ 0xc4652dfc ∷ 0xd4a6ff09 ∷ [])
     refl (λ z. suc-ne-zero 0 (z .0)) tt tt tt
 
--- the powers of y, which a table of the lifts is computed from
+-- the powers of y, which the lifts are combined from
 unfoldable pub powers32 : List ℕ
 powers32 = 1 ∷ 1084517114 ∷ 3294965244 ∷ 2127406947 ∷ 2626399570 ∷ 1050887763 ∷ 77245034 ∷ 1283290107 ∷ []
 

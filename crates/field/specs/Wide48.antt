@@ -63,7 +63,7 @@ least48 =
     (0x2a061bdf594f ∷ 0x978b70bac25c ∷ 0xba2c847d497d ∷ 0xc306e7e2bdac ∷ 0xc49d473c635c ∷ 0xc7a5adda569e ∷ 0xeea11325368c ∷ [])
     refl (λ z. suc-ne-zero 0 (z .0)) tt tt tt
 
--- the powers of y, which a table of the lifts is computed from
+-- the powers of y, which the lifts are combined from
 unfoldable pub powers48 : List ℕ
 powers48 = 1 ∷ 45350311783564 ∷ 204700364130685 ∷ 50155470555071 ∷ 219514400298654 ∷ 202657554119817 ∷ 208594291365772 ∷ 44256213475364 ∷ []
 

@@ -1,11 +1,12 @@
-// Products in the fields of X^w + low, and the tables of inverses and of lifts. Elements of wide fields travel as u64, so that all widths
-// share this code.
+// Products in the fields of X^w + low, and the tables of inverses, of lifts and of the powers of y. Elements of wide fields travel as u64,
+// so that all widths share this code.
 ghost use mathlib.Core.Path.{_≡_};
 ghost use Prim.Native.Nat.{_^_, _≤_, _<_};
 ghost use Rattle.field.specs.Ring.{mul as product, xtime};
 ghost use Rattle.field.specs.Fits.{Fits};
 ghost use Rattle.field.specs.Byte.{inverse8};
-ghost use Rattle.field.specs.Wide32.{lift32};
+ghost use Rattle.field.specs.Wide32.{lift32, powers32};
+ghost use Rattle.field.specs.Wide48.{powers48};
 
 // 2 to the power of bits.
 fn top(bits: u32) -> u64
@@ -315,7 +316,7 @@ pub fn inverse(a: u8) -> u8
     INVERSE[a as usize]
 }
 
-const LIFT: [u32; 256] = [
+const LIFT32: [u32; 256] = [
     0,
     1,
     1084517114,
@@ -575,8 +576,40 @@ const LIFT: [u32; 256] = [
 ];
 
 // The lift of a byte into the field of 32 bits.
-pub fn lift(a: u8) -> u32
+pub fn lift32(a: u8) -> u32
     ensures { λ r. ⌜ r ≡ lift32 a ⌝ }
 {
-    LIFT[a as usize]
+    LIFT32[a as usize]
+}
+
+// The powers of y, the lifts of 1, 2, 4, .. 128: every lift is the sum of some of them.
+pub fn powers32() -> [u64; 8]
+    ensures { λ r. ⌜ r ≡ powers32 ⌝ }
+{
+    [
+        1,
+        1084517114,
+        3294965244,
+        2127406947,
+        2626399570,
+        1050887763,
+        77245034,
+        1283290107,
+    ]
+}
+
+// The same in the field of 48 bits.
+pub fn powers48() -> [u64; 8]
+    ensures { λ r. ⌜ r ≡ powers48 ⌝ }
+{
+    [
+        1,
+        45350311783564,
+        204700364130685,
+        50155470555071,
+        219514400298654,
+        202657554119817,
+        208594291365772,
+        44256213475364,
+    ]
 }

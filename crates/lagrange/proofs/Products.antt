@@ -13,7 +13,7 @@ use Rattle.slices.specs.Tab.{length-tab, getD-tab}
 use Rattle.field.specs.Ring.{mul}
 use Rattle.poly.specs.Index.{at-same, at-other}
 use Rattle.poly.specs.Field.{BinaryField, mul-assoc, mul-comm}
-use Rattle.poly.specs.Lagrange.{numbers}
+use Rattle.poly.specs.Lagrange.{number-points}
 use Rattle.poly.specs.Weights.{numerator, basis-by-weight}
 use Rattle.field.specs.Wide.{ops, Element}
 use Rattle.weights.specs.Weights.{Weights}
@@ -79,7 +79,8 @@ module _ (w low x : ℕ) where
   value-split {n} {ws} W h k l =
       let e : suc k + (n - suc k) ≡ n = omega arith in
       let p = W .points in
-      sym (value-basis w low (W .field) n p x h k l ∙ basis-by-weight (W .field) (λ i. i) (numbers n (2 ^ w) p) k l (getD ws k 0) (W .small k l) (W .inverse k l) x
+      sym (value-basis w low (W .field) n p x h k l
+      ∙ basis-by-weight (W .field) (λ i. i) (number-points n (2 ^ w) p) k l (getD ws k 0) (W .small k l) (W .inverse k l) x
       ∙ ap (_⊗ getD ws k 0) (ap (num k) (sym e) ∙ num-split (W .field) h (n - suc k) k (omega arith)))
 
   -- ---- the loop downwards: p is the product from k on, and from k on the list holds the values
@@ -93,7 +94,11 @@ module _ (w low x : ℕ) where
   unfolding over
   down-none {n} {m} {k} {l} u p q =
       let e : n - k ≡ 0 = omega arith in
-      record { product = ap (λ i. over i k) (sym e); held = λ i h. ap (λ t. getD t i 0) u ∙ getD-tab up m i 0 (omega arith); done = λ i h t. absurd (omega arith) }
+      record {
+        product = ap (λ i. over i k) (sym e);
+        held = λ i h. ap (λ t. getD t i 0) u ∙ getD-tab up m i 0 (omega arith);
+        done = λ i h t. absurd (omega arith);
+      }
 
   pub down-more : {n k p q u v : ℕ} {l ws : List ℕ} → Weights w low n ws → x < 2 ^ w → Down n k p l → 0 < k → k ≤ n → length l ≡ n
       → u ≡ getD l (k - 1) 0 ⊗ p → v ≡ u ⊗ getD ws (k - 1) 0 → q ≡ p ⊗ bitXor x (k - 1) → Down n (k - 1) q (set l (k - 1) v)

@@ -1,5 +1,5 @@
 -- The product check of document 01, "One execution", over any field: m1 pairs of polynomials S_j and T_j through m2 inputs and inverses
--- each, the inputs weighed by the first challenge r (01: first draws), against one polynomial P at the second challenge R (01: second
+-- each, the inputs weighted by the first challenge r (01: first draws), against one polynomial P at the second challenge R (01: second
 -- draw). `ProductCheck` has its theorems.
 use mathlib.Core.Path.{_≡_}
 use mathlib.Core.Logic.{_≢_}

@@ -76,14 +76,14 @@ merge d n h h′ a b = ⊎-elim (λ f. inr (λ i l. (at-other i h (b h) (a i), o
     two : (i : ℕ) × (i < n) × ¬ (i ≢ h → i ≢ h′ → a i ≡ b i) → (i : ℕ) × (i < n) × (i ≢ h) × (i ≢ h′) × (a i ≢ b i)
     two (i, l, f) = (i, l, λ e. f (λ x y. absurd (x e)), λ e. f (λ x y. absurd (y e)), λ e. f (λ x y. e))
 
--- Where Q holds of what each family shows, either it holds of two values at one place, or of one family of which both
--- show parts.
-pub combine : {C : Type 0} → Discrete C → (Q : ℕ → C → Type 0) (n h h′ : ℕ) → h ≢ h′ → (a b : ℕ → C)
+-- Where Q holds of what each family shows, the two clash, Q holding of two values at one place, or they merge: Q holds of one family of
+-- which both show parts.
+pub clash-or-merged : {C : Type 0} → Discrete C → (Q : ℕ → C → Type 0) (n h h′ : ℕ) → h ≢ h′ → (a b : ℕ → C)
     → ((i : ℕ) → i < n → i ≢ h → Q i (a i)) → ((i : ℕ) → i < n → i ≢ h′ → Q i (b i))
     → ((i : ℕ) × (i < n) × (a i ≢ b i) × Q i (a i) × Q i (b i))
     ⊎ ((s : ℕ → C) × ((i : ℕ) → i < n → Q i (s i)) × ((i : ℕ) → i < n → i ≢ h → s i ≡ a i)
     × ((i : ℕ) → i < n → i ≢ h′ → s i ≡ b i))
-combine d Q n h h′ ne a b qa qb =
+clash-or-merged d Q n h h′ ne a b qa qb =
     ⊎-elim (λ (i, l, x, y, z). inl (i, l, z, qa i l x, qb i l y))
     (λ f. inr (update a h (b h), shown, λ i l. f i l .0, λ i l. f i l .1))
     (merge d n h h′ a b)

@@ -41,8 +41,8 @@ pub fewer : {A : Type 0} {Elem : A → Type 0} {pt : ℕ → A} {n : ℕ} (m : �
 fewer m l P = record { elem = λ k h. P .elem k (omega arith); apart = λ i j h k. P .apart i j (omega arith) (omega arith) }
 
 -- The numbers as points, where the elements are the numbers below a bound.
-pub numbers : (n b : ℕ) → n ≤ b → Points (λ a. a < b) (λ k. k) n
-numbers n b l = record { elem = λ k h. omega arith; apart = λ i j h k ne. ne }
+pub number-points : (n b : ℕ) → n ≤ b → Points (λ a. a < b) (λ k. k) n
+number-points n b l = record { elem = λ k h. omega arith; apart = λ i j h k ne. ne }
 
 -- ---- the polynomials
 

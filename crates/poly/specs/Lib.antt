@@ -1,6 +1,6 @@
--- Polynomials over any field of characteristic 2. Definitions: Field, Sum, Poly, Roots, Lagrange, Balance, Parties. The theorems that
--- others cite: root-bound (Roots), interpolates and interpolates-unique (Interpolation), product-check and product-complete
--- (ProductCheck), execution-check (Parties).
+-- Polynomials over any field of characteristic 2. Definitions: Index, Field, Sum, Poly, Roots, Lagrange, Weights, Balance, Parties. The
+-- theorems that others cite: clash-or-merged (Index), root-bound (Roots), interpolates and interpolates-unique (Interpolation),
+-- basis-by-weight (Weights), product-check and product-complete (ProductCheck), execution-check (Parties).
 pub mod Index
 pub mod Field
 pub mod Sum

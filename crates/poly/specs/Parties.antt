@@ -89,7 +89,8 @@ module _ {A : Type 0} {O : Ops A} {Elem : A → Type 0} (F : BinaryField O Elem)
       (λ j l. elem-sum F n _ (λ i g. o .elem-s i j g l)) (λ j l. elem-sum F n _ (λ i g. o .elem-t i j g l))
       (λ k l h. elem-sum F n _ (λ i g. o .elem-v i k g l h))
 
-  -- An execution that passes: all products are one, or the first challenge or the second was lucky.
+  -- An execution that passes: all products are one, or one part of the first challenge is the only value that balances the rows, or R is
+  -- one of few roots.
   pub execution-check : Points Elem pt (suc (2 * m2)) → Elem R
       → AllOne O m1 m2 (totals O n X) (totals O n Y) ⊎ (OneChallenge O Elem m1 m2 r (totals O n X) (totals O n Y)
       ⊎ FewRoots O Elem m1 m2 (checkOf O pt n m1 m2 r X Y s t v) R)

@@ -11,7 +11,23 @@ use lib.ListN.{length}
 use Rattle.poly.specs.Field.{Ops, BinaryField, ring, add-self, eq-of-sum, sum-of-eq, no-divisors, cancel, mul-assoc}
 use Rattle.poly.specs.Sum.{sum, sum-cong, sum-update, elem-sum}
 use Rattle.poly.specs.Index.{at-other, at-cases, update, all-below, dec-below}
-use Rattle.poly.specs.Poly.{All, eval, eval-add, eval-mul, eval-sum, eval-zero, IsZero, pmul, psum, length-add, length-mul, length-sum, elem-padd, elem-pmul, elem-psum}
+use Rattle.poly.specs.Poly.{
+  All,
+  eval,
+  eval-add,
+  eval-mul,
+  eval-sum,
+  eval-zero,
+  IsZero,
+  pmul,
+  psum,
+  length-add,
+  length-mul,
+  length-sum,
+  elem-padd,
+  elem-pmul,
+  elem-psum,
+}
 use Rattle.poly.specs.Roots.{zero-or-not, root-bound}
 use Rattle.poly.specs.Lagrange.{
   Points,
@@ -26,7 +42,7 @@ use Rattle.poly.specs.Interpolation.{lagrange-at, eval-by-values}
 use Rattle.poly.specs.Balance.{Balanced, AllOne, valuesS, valuesT, valuesP, checkPoly, products, Values, OneChallenge, FewRoots}
 
 module _ {A : Type 0} {O : Ops A} {Elem : A → Type 0} (F : BinaryField O Elem) (m1 m2 : ℕ) where
-  -- Those values are such as the check wants.
+  -- The values of `Balance` are such as the check wants.
   pub values : (r : ℕ → A) (x y : ℕ → ℕ → A) (s t v : ℕ → A)
       → ((j : ℕ) → j < m1 → Elem (r j))
       → ((j k : ℕ) → j < m1 → k < m2 → Elem (x j k))
@@ -169,7 +185,8 @@ module _ {A : Type 0} {O : Ops A} {Elem : A → Type 0} (F : BinaryField O Elem)
                   challenge-fixed F m1 r (λ i. x i k) (λ i. y i k) j a l (vs .elem-r j l) (vs .elem-x j k l h) (vs .elem-y j k l h) ea
                   q (b k h) e
 
-  -- Where the check passes at R: all products are one, or the first challenge or the second was lucky.
+  -- Where the check passes at R: all products are one, or one part of the first challenge is the only value that balances the rows, or
+  -- R is one of few roots.
   pub product-check : (R : A) → Elem R → lagrange O pt (suc (2 * m2)) P R ≡ products O m1 m2 pt S T R
       → AllOne O m1 m2 x y ⊎ (OneChallenge O Elem m1 m2 r x y ⊎ FewRoots O Elem m1 m2 (checkPoly O m1 m2 pt S T P) R)
   product-check R e h = go (zero-or-not F c)

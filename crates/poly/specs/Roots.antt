@@ -14,7 +14,7 @@ use Rattle.poly.specs.Poly.{All, Distinct, eval, eval-nil, eval-cons, ev
 abbrev pub Root : {A : Type 0} → Ops A → (A → Type 0) → List A → A → Type 0
 Root O Elem p x = Elem x × (eval O p x ≡ O .zero)
 
--- Any distinct roots are at most n.
+-- Every list of distinct roots has at most n entries.
 abbrev pub AtMostRoots : {A : Type 0} → Ops A → (A → Type 0) → List A → ℕ → Type 0
 AtMostRoots {A} O Elem p n = (xs : List A) → Distinct xs → All (Root O Elem p) xs → length xs ≤ n
 
@@ -114,7 +114,7 @@ module _ {A : Type 0} {O : Ops A} {Elem : A → Type 0} (F : BinaryField O Elem)
       go (yes e) (inr n) = inr (λ h. n (h .1))
       go (no n) r = inr (λ h. n (h .0))
 
-  -- A polynomial of n + 1 coefficients that isn't zero has at most n roots.
+  -- A polynomial of at most n + 1 coefficients that isn't zero has at most n roots.
   pub root-bound : (p : List A) (n : ℕ) → All Elem p → length p ≤ suc n → ¬ (IsZero O p) → AtMostRoots O Elem p n
   root-bound p n ep l nz xs d r = go (decLt n (length xs))
     where

@@ -76,16 +76,6 @@ module _ {A : Type 0} {O : Ops A} {Elem : A → Type 0} (F : BinaryField O Elem)
   elem-sum zero f h = F .elem-zero
   elem-sum (suc n) f h = F .elem-add _ _ (elem-sum n f (λ k l. h k (omega arith))) (h n (omega arith))
 
-  -- A map that is additive on the elements carries sums to sums.
-  pub sum-map : {B : Type 0} (O′ : Ops B) (φ : A → B) → φ 𝟘 ≡ O′ .zero
-      → ((u v : A) → Elem u → Elem v → φ (u ⊕ v) ≡ O′ .add (φ u) (φ v))
-      → (n : ℕ) (f : ℕ → A) → ((k : ℕ) → k < n → Elem (f k)) → φ (sum O n f) ≡ sum O′ n (λ k. φ (f k))
-  unfolding sum
-  sum-map O′ φ z h zero f e = z
-  sum-map O′ φ z h (suc n) f e =
-      h _ _ (elem-sum n f (λ k l. e k (omega arith))) (e n (omega arith))
-      ∙ ap (λ u. O′ .add u (φ (f n))) (sum-map O′ φ z h n f (λ k l. e k (omega arith)))
-
   -- One party adds a value: the sum has it once.
   pub sum-at : (n j : ℕ) (a : A) → j < n → sum O n (λ i. at i j a 𝟘) ≡ a
   sum-at n j a l = sum-only n _ j l (λ k lk ne. at-other k j a 𝟘 ne) ∙ at-same j j a 𝟘 refl

@@ -4,7 +4,6 @@ use libc::STDOUT_FILENO;
 ghost use mathlib.Core.Path.{_≡_};
 ghost use Prim.Native.Nat.{_<_, _^_};
 ghost use lib.ListN.{length};
-ghost use Rattle.field.specs.Fits.{Fits};
 
 fn wide(x: u8) -> u64 {
     x as u64
@@ -37,7 +36,7 @@ fn product48(a: u64, b: u64) {
 fn byte(b: u8) {
     print(b"byte ", wide(b));
     print(b": inverse ", wide(gf::inverse(b)));
-    print(b", lift ", gf::lift(b) as u64);
+    print(b", lift ", gf::lift32(b) as u64);
     end_line();
 }
 
@@ -74,20 +73,6 @@ fn values48(x: u64)
     print_all(&many);
 }
 
-// The lifts of 1, 2, 4, .. 128.
-fn powers() -> [u64; 8] {
-    [
-        gf::lift(1) as u64,
-        gf::lift(2) as u64,
-        gf::lift(4) as u64,
-        gf::lift(8) as u64,
-        gf::lift(16) as u64,
-        gf::lift(32) as u64,
-        gf::lift(64) as u64,
-        gf::lift(128) as u64,
-    ]
-}
-
 // Bytes 5, 78, 151, .. modulo 256.
 fn bytes() -> [u8; 200] {
     let mut s = [0u8; 200];
@@ -113,7 +98,7 @@ fn dots(x: u64)
 {
     let mut coefficients = [0u64; 21];
     lagrange::values32_21(x, &mut coefficients);
-    let p = powers();
+    let p = gf::powers32();
     let mut tables = [0u64; 672];
     dots::tables(32, 0x8d, &p, &coefficients, &mut tables);
     let s = bytes();

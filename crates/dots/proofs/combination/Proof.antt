@@ -38,4 +38,6 @@ returns c =
     combine-end (c .before .before .args .p .now) (l .i) (l .sum) (l .rest) (omega arith) ∙ l .inv .1
 
 pub combination-spec : {M : Type 1} → statement M
-combination-spec = tie.close (tie.spec Inv-loop μ-loop loop-holds (λ c. search needs) (λ c. search needs) (λ c. search needs) (λ c. search needs) loop-again returns)
+combination-spec =
+    tie.close
+    (tie.spec Inv-loop μ-loop loop-holds (λ c. search needs) (λ c. search needs) (λ c. search needs) (λ c. search needs) loop-again returns)

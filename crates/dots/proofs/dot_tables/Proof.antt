@@ -6,13 +6,13 @@ use lib.ListN.{getD}
 use borrow.Author.Needs.{needs}
 use Rattle.slices.proofs.Rows.{row-fits}
 use Rattle.dots.specs.Tables.{tabled}
-use Rattle.dots.proofs.Sums.{tabled-none, tabled-more, cell-fits}
+use Rattle.dots.proofs.Sums.{tabled-none, tabled-more}
 use Rattle.dots.proofs.dot_tables.Statement.{statement}
 use Rattle.dots.proofs.dot_tables.Tie as tie
 
 abbrev Inv-loop : tie.InvT-loop
 Inv-loop tables bytes rows m1 j sum₀ k₀ sum k =
-    (k ≤ rows) × (sum ≡ tabled k (λ k. getD bytes (j + m1 * k) 0) tables)
+    (k ≤ rows) × (sum ≡ tabled k (λ k. getD bytes (j + k * m1) 0) tables)
 
 abbrev μ-loop : tie.MeasureT-loop
 μ-loop tables bytes rows m1 j sum₀ k₀ sum k = rows - k
@@ -20,9 +20,9 @@ abbrev μ-loop : tie.MeasureT-loop
 abbrev start : tie.In-loop Inv-loop μ-loop → tie.Start Inv-loop μ-loop
 start c = c .before .before .before .before
 
--- the place of the byte
-fits : (c : tie.In-loop Inv-loop μ-loop) → start c .args .m1 * c .before .loop .k + start c .args .m1 ≤ start c .args .m1 * start c .args .rows
-fits c = cell-fits (start c .args .m1) (c .before .loop .k) (start c .args .rows) (omega arith)
+-- row k fits, of m elements each
+fits : (c : tie.In-loop Inv-loop μ-loop) (m : ℕ) → c .before .loop .k * m + m ≤ start c .args .rows * m
+fits c m = row-fits m (omega arith)
 
 loop-again : tie.Need-loop-again Inv-loop μ-loop
 loop-again c =
@@ -34,12 +34,11 @@ returns c =
     let l = c .before .loop in
     let a = c .before .before .before .before .args in
     let e : l .k ≡ a .rows = omega arith in
-    l .inv .1 ∙ ap (λ (n : ℕ). tabled n (λ k. getD (a .bytes .now) (a .j + a .m1 * k) 0) (a .tables .now)) e
+    l .inv .1 ∙ ap (λ (n : ℕ). tabled n (λ k. getD (a .bytes .now) (a .j + k * a .m1) 0) (a .tables .now)) e
 
 pub dot-tables-spec : {M : Type 1} → statement M
 dot-tables-spec =
     tie.close
-    (tie.spec Inv-loop μ-loop (λ c. (search needs, tabled-none _ _)) (λ c. omega (arith, fits c)) (λ c. omega (arith, fits c))
-    (λ c. omega (arith, fits (c .before)))
-    (λ c κs. omega (arith, row-fits 32 {i = c .before .before .loop .k} {n = start (c .before) .args .rows} (omega arith))) (λ c. search needs)
-    (λ c. search needs) loop-again returns)
+    (tie.spec Inv-loop μ-loop (λ c. (search needs, tabled-none _ _)) (λ c. omega (arith, fits c (start c .args .m1)))
+    (λ c. omega (arith, fits c (start c .args .m1))) (λ c. omega (arith, fits (c .before) (start (c .before) .args .m1)))
+    (λ c κs. omega (arith, fits (c .before) 32)) (λ c. search needs) (λ c. search needs) loop-again returns)

@@ -1,0 +1,12 @@
+-- `gf::powers32` answers the powers of y: the two lists, computed, are one. Assumes nothing.
+use mathlib.Core.Path.{refl}
+use Rattle.field.specs.Wide32.{powers32}
+use Rattle.gf.proofs.powers32.Statement.{statement}
+use Rattle.gf.proofs.powers32.Tie as tie
+
+returns : tie.Need-returns
+unfolding powers32
+returns c = refl
+
+pub powers32-spec : {M : Type 1} → statement M
+powers32-spec = tie.close (tie.spec returns)
