@@ -102,7 +102,8 @@ module _ (s : Share) (h : Bytes (s .key)) where
   inputShares-bytes plaintext =
       append-bytes (keyInputs-bytes (roundKey-bytes (s .one) h (z-bytes 200)))
       (rows-bytes _ 10
-      (λ n l. entering-bytes (expansion-bytes (s .one) h (z-bytes 200)) (drop-bytes 40 (outputs s) (z-bytes 200)) (public-bytes (s .one) 16 plaintext) n))
+      (λ n l. entering-bytes (expansion-bytes (s .one) h (z-bytes 200)) (drop-bytes 40 (outputs s) (z-bytes 200))
+      (public-bytes (s .one) 16 plaintext) n))
 
   pub outputShare-bytes : Bytes (outputShare s)
   unfolding outputShare

@@ -68,7 +68,7 @@ module _ (w low : ℕ) (F : BinaryField (ops w low) (Element w)) (powers : List 
         ∙ sym (combine-map (record { adds = F .mul-add (c k) }) powers (f k)) ∙ F .mul-comm (c k) _
       where
         entry : (i : ℕ) → i < 32 → getD t (k * 32 + i) 0 ≡ getD (tableOf w low powers (c k)) i 0
-        entry i h = ap (λ t. getD t (k * 32 + i) 0) e ∙ getD-rows 32 (λ k. tableOf w low powers (c k)) n (λ j. length-halves _) k i l h
+        entry i h = ap (λ t. getD t (k * 32 + i) 0) e ∙ getD-rows 32 (λ k. tableOf w low powers (c k)) n (λ j m. length-halves _) k i l h
 
     -- the tables give the sum of the lifted bytes times the coefficients
     pub tabled-dot : (m : ℕ) {t : List ℕ} → t ≡ rows (λ k. tableOf w low powers (c k)) m → (n : ℕ) → n ≤ m

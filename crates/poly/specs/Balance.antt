@@ -8,7 +8,8 @@ use Prim.Native.Nat.{ℕ, zero, suc, _*_, _≤_, _<_}
 use lib.Dec.{ltb}
 use Rattle.poly.specs.Field.{Ops}
 use Rattle.poly.specs.Sum.{sum}
-use Rattle.poly.specs.Index.{choose, at, update}
+use Rattle.slices.specs.Lists.{choose}
+use Rattle.poly.specs.Index.{at, update}
 use Rattle.poly.specs.Poly.{IsZero, padd, pmul, psum}
 use Rattle.poly.specs.Roots.{Root, AtMostRoots}
 use Rattle.poly.specs.Lagrange.{lagrange, interpolate}

@@ -1,16 +1,12 @@
 -- Functions of an index, and searches over the indices below a bound. Assumes nothing.
 use mathlib.Core.Path.{_≡_, sym, _∙_, ap, subst}
 use mathlib.Core.Logic.{_≢_, _⊎_, inl, inr, ⊎-elim}
-use mathlib.Core.Bool.{Bool, true, false}
 use Prim.Native.Nat.{ℕ, zero, suc, _<_}
 use native.Mathlib.Omega.{arith}
 use native.Mathlib.Decide.{ℕ-discrete}
 use lib.Dec.{eqb}
 use borrow.Author.Tests.{eq-eqb, ne-eqb}
-
-abbrev pub choose : {C : Type 0} → Bool → C → C → C
-choose true a b = a
-choose false a b = b
+use Rattle.slices.specs.Lists.{choose}
 
 -- a where i is k, and b elsewhere
 unfoldable pub at : {C : Type 0} → ℕ → ℕ → C → C → C

@@ -5,7 +5,8 @@ use mathlib.Core.Logic.{_⊎_}
 use mathlib.Core.List.{List}
 use Prim.Native.Nat.{ℕ, suc, _*_, _≤_, _<_}
 use lib.Dec.{ltb}
-use Rattle.poly.specs.Index.{choose, at}
+use Rattle.slices.specs.Lists.{choose}
+use Rattle.poly.specs.Index.{at}
 use Rattle.poly.specs.Field.{Ops, BinaryField}
 use Rattle.poly.specs.Sum.{sum, sum-cong, sum-mul, sum-at, sum-choose, sum-each, elem-sum}
 use Rattle.poly.specs.Lagrange.{Points, lagrange}

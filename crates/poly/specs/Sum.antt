@@ -7,7 +7,8 @@ use lib.Dec.{eqb}
 use native.Mathlib.Omega.{arith}
 use native.Mathlib.Decide.{ℕ-discrete}
 use Rattle.poly.specs.Field.{Ops, BinaryField, ring, add-zero, zero-add, add-self, mul-comm}
-use Rattle.poly.specs.Index.{choose, at, at-same, at-other, update}
+use Rattle.slices.specs.Lists.{choose}
+use Rattle.poly.specs.Index.{at, at-same, at-other, update}
 
 -- f 0 + .. + f (n - 1)
 unfoldable pub sum : {A : Type 0} → Ops A → ℕ → (ℕ → A) → A

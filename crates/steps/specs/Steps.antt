@@ -4,13 +4,13 @@ use mathlib.Core.List.{List, [], _∷_}
 use Prim.Native.Nat.{ℕ, _+_, _-_, _*_, _/_, _%_, _^_, _<_, _≤_}
 use native.Mathlib.Nat.{mod-eq-of-lt}
 use native.Mathlib.Omega.{arith}
-use lib.Bits.{bitXor, xor-comm, xor-zero-r}
+use lib.Bits.{bitXor, xor-zero-r}
 use lib.ListN.{getD}
 use Rattle.slices.specs.Lists.{tab}
 use Rattle.slices.specs.Bytes.{Bytes}
 use Rattle.slices.specs.Xor.{xor-assoc}
-use Rattle.field.specs.Linear.{pick, combine, orbit, basis, Additive, agree, combined, compose, sum, shl, shr, low-bits, identity}
-use Rattle.field.specs.Ring.{times, xtime}
+use Rattle.field.specs.Linear.{combine, orbit, basis, Additive, agree, combined, compose, sum, shl, shr, low-bits, identity}
+use Rattle.field.specs.Ring.{times, xtime, xtime-even, xtime-odd}
 use Rattle.field.specs.Field.{adds-l}
 use Rattle.field.specs.Byte.{mul8, field8, low8, times-one}
 use Rattle.aes.specs.Aes.{cell, state, add, columns, matrix, mixed, mixColumns}
@@ -34,17 +34,15 @@ matrix-by-rotations b h =
 
 -- ---- 4.2.1: 02 a, by the bit d that leaves
 
-double-by-bit : (a d : ℕ) → a < 256 → a * 2 / 2 ^ 8 % 2 ≡ d → bitXor (pick d low8) (a * 2 % 2 ^ 8) ≡ mul8 2 a
-unfolding times combine orbit xtime
-double-by-bit a d h e =
-    ap (λ (d : ℕ). bitXor (pick d low8) (a * 2 % 2 ^ 8)) (sym e)
-    ∙ sym (field8 .ring .comm 2 a ∙ xor-zero-r (xtime 8 low8 (a % 256)) ∙ ap (xtime 8 low8) (mod-eq-of-lt h))
+xtime-double : (a : ℕ) → a < 256 → xtime 8 low8 a ≡ mul8 2 a
+unfolding times combine orbit
+xtime-double a h = sym (field8 .ring .comm 2 a ∙ xor-zero-r (xtime 8 low8 (a % 256)) ∙ ap (xtime 8 low8) (mod-eq-of-lt h))
 
 pub double-low : (a : ℕ) → a < 128 → a * 2 % 2 ^ 8 ≡ mul8 2 a
-double-low a h = double-by-bit a 0 (omega arith) (omega arith)
+double-low a h = xtime-even 8 low8 a (omega arith) ∙ xtime-double a (omega arith)
 
 pub double-high : (a : ℕ) → a < 256 → 128 ≤ a → bitXor (a * 2 % 2 ^ 8) low8 ≡ mul8 2 a
-double-high a h l = xor-comm (a * 2 % 2 ^ 8) low8 ∙ double-by-bit a 1 h (omega arith)
+double-high a h l = xtime-odd 8 low8 a (omega arith) ∙ xtime-double a h
 
 -- ---- 5.1.3: 02 a + 03 b + c + d = 02 (a + b) + b + (c + d), for all bytes of a block at a time
 
