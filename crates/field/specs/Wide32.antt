@@ -51,7 +51,7 @@ lift32 = lift 8 mul32 y32
 pub binary32 : BinaryField (ops 32 low32) (Element 32)
 binary32 = binary-field 32 low32 field32 (lit< tt)
 
--- "Of the eight wide roots y of y^8 + y^4 + y^3 + y + 1 take the smallest as a number."
+-- "of the eight wide roots y of y^8 + y^4 + y^3 + y + 1 take the smallest as a number."
 pub least32 : IsLeastRoot 32 low32 modulus8 y32
 unfolding xtime times combine orbit eval
 least32 =

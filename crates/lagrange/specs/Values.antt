@@ -1,5 +1,5 @@
 -- The values at x of Lagrange's basis polynomials for the points 0 to n - 1: polynomial k is one at k and zero at the others. A dot
--- product with them is the value at x of the interpolating polynomial. In the field of X^w + low; "points are wide elements with those
+-- product with them is the value at x of the interpolating polynomial. In the field of X^w + low; "Points are wide elements with those
 -- numbers". Assumes nothing.
 use mathlib.Core.Path.{_≡_, refl, sym, ap, _∙_, subst}
 use mathlib.Core.List.{List}

@@ -65,13 +65,13 @@ module _ {A : Type 0} (O : Ops A) (Elem : A → Type 0) (m1 m2 : ℕ) where
     pub T-is : (j k : ℕ) → j < m1 → k < m2 → T j k ≡ y j k
     pub P-is : (k : ℕ) → k < m2 → P k ≡ sum O m1 r
 
-  -- "One of the ten first draws, beside the other nine, balances all twenty rows, and every other value in its place leaves some row
-  -- out of balance."
+  -- "one of the ten first draws, beside the other nine, balances all twenty rows, and every other value in its place leaves some row
+  -- out of balance"
   abbrev pub OneChallenge : (ℕ → A) → (ℕ → ℕ → A) → (ℕ → ℕ → A) → Type 0
   OneChallenge r x y =
       (j : ℕ) × (j < m1) × ((k : ℕ) → k < m2 → Balanced O m1 m2 r x y k)
       × ((a : A) → Elem a → a ≢ r j → (k : ℕ) × (k < m2) × ¬ (Balanced O m1 m2 (update r j a) x y k))
 
-  -- "The check polynomial isn't zero, has at most 40 roots, and the second draw is one of them."
+  -- "the check polynomial isn't zero, has at most 40 roots, and the second draw is one of them"
   abbrev pub FewRoots : List A → A → Type 0
   FewRoots c R = ¬ (IsZero O c) × AtMostRoots O Elem c (2 * m2) × Root O Elem c R
