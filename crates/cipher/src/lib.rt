@@ -30,9 +30,9 @@ fn next_round_key(k: [u8; 16], n: usize) -> [u8; 16]
     requires { ⌜ n < 10 ⌝ }
     ensures { λ r. ⌜ r ≡ nextKey k (add 4 (subWord (keyInput k)) (rcon n)) ⌝ }
 {
-    let mut s = steps::key_input(k);
+    let mut s = key_schedule::key_input(k);
     substitute(&mut s);
-    steps::key_step(k, s, steps::round_constant(n))
+    key_schedule::key_step(k, s, key_schedule::round_constant(n))
 }
 
 // The expanded key, and into inputs what the key schedule's 40 S-boxes are given.
@@ -45,7 +45,7 @@ pub fn expand(key: &[u8], inputs: &mut [u8]) -> [u8; 176]
     let mut w = [0u8; 176];
     let mut k = steps::block_at(key, 0);
     for n in 0..10 {
-        slices::copy_at(inputs, n * 4, &steps::key_input(k));
+        slices::copy_at(inputs, n * 4, &key_schedule::key_input(k));
         slices::copy_at(&mut w, n * 16, &k);
         k = next_round_key(k, n);
     }

@@ -48,7 +48,7 @@ fn next_key_share(one: u8, k: [u8; 16], z: &[u8], n: usize) -> [u8; 16]
 {
     let at = n * 4;
     let s = [z[at], z[at + 1], z[at + 2], z[at + 3]];
-    steps::key_step(k, s, public_byte(one, steps::round_constant(n)))
+    key_schedule::key_step(k, s, public_byte(one, key_schedule::round_constant(n)))
 }
 
 // The expanded key's share, and into inputs those of what the key schedule's 40 S-boxes are given, where the S-boxes give z.
@@ -63,7 +63,7 @@ fn schedule(one: u8, key: &[u8], z: &[u8], inputs: &mut [u8]) -> [u8; 176]
     let mut w = [0u8; 176];
     let mut k = steps::block_at(key, 0);
     for n in 0..10 {
-        slices::copy_at(inputs, n * 4, &steps::key_input(k));
+        slices::copy_at(inputs, n * 4, &key_schedule::key_input(k));
         slices::copy_at(&mut w, n * 16, &k);
         k = next_key_share(one, k, z, n);
     }

@@ -1,6 +1,6 @@
 -- How the program works AES's steps out, and why that is right. Assumes nothing.
 use mathlib.Core.Path.{_≡_, refl, sym, ap, ap₂, _∙_, subst}
-use mathlib.Core.List.{List, [], _∷_}
+use mathlib.Core.List.{List, _∷_}
 use Prim.Native.Nat.{ℕ, _+_, _-_, _*_, _/_, _%_, _^_, _<_, _≤_}
 use native.Mathlib.Nat.{mod-eq-of-lt}
 use native.Mathlib.Omega.{arith}
@@ -79,11 +79,3 @@ module _ {s : List ℕ} (h : Bytes s) where
 
   pub mixColumns-by-blocks : doubledPlus (add 16 s (below s)) (below s) (below (below (add 16 s (below s)))) ≡ mixColumns s
   mixColumns-by-blocks = column 0 1 2 3 (column 4 5 6 7 (column 8 9 10 11 (column 12 13 14 15 refl)))
-
--- ---- 5.2: a word plus Rcon
-
-pub plus-rcon : (t : List ℕ) (c : ℕ) → bitXor (getD t 0 0) c ∷ getD t 1 0 ∷ getD t 2 0 ∷ getD t 3 0 ∷ [] ≡ add 4 t (c ∷ 0 ∷ 0 ∷ 0 ∷ [])
-plus-rcon t c = ap (bitXor (getD t 0 0) c ∷_) (ap₂ _∷_ (none 1) (ap₂ _∷_ (none 2) (ap₂ _∷_ (none 3) refl)))
-  where
-    none : (i : ℕ) → getD t i 0 ≡ bitXor (getD t i 0) 0
-    none i = sym (xor-zero-r (getD t i 0))

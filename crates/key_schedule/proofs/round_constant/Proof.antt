@@ -1,9 +1,9 @@
--- `steps::round_constant` reads the table of the round constants. Assumes nothing.
+-- `key_schedule::round_constant` reads the table of the round constants. Assumes nothing.
 use mathlib.Core.Path.{refl}
 use borrow.Author.Needs.{needs}
 use Rattle.aes.specs.Aes.{roundConstants}
-use Rattle.steps.proofs.round_constant.Statement.{statement}
-use Rattle.steps.proofs.round_constant.Tie as tie
+use Rattle.key_schedule.proofs.round_constant.Statement.{statement}
+use Rattle.key_schedule.proofs.round_constant.Tie as tie
 
 returns : tie.Need-returns
 unfolding roundConstants
