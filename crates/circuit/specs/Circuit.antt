@@ -19,7 +19,8 @@ pub record Share : Type 0 where
 abbrev pub share : ℕ → List ℕ → List ℕ → Share
 share one key inverses = record { one = one; key = key; inverses = inverses }
 
--- ---- "Party 0 alone adds offsets and public constants": a public value's share is the value times `one`, and the offsets are in the shares
+-- ---- "Party 0 alone adds offsets and public constants": a public value's share is the value times `one`; the offsets are added to party 0's
+-- shares of the key and of the inverses before they come here
 
 -- of a list of n bytes
 abbrev pub public : ℕ → ℕ → List ℕ → List ℕ
