@@ -1,0 +1,102 @@
+-- What demand 3 speaks of: "Take any two accepted openings of one execution .. that agree .. but hide different parties." The theorem is in `theorems`.
+use mathlib.Core.Path.{_≡_}
+use mathlib.Core.Logic.{_≢_, _⊎_}
+use mathlib.Core.List.{List}
+use Prim.Native.Nat.{ℕ, _<_}
+use lib.ListN.{getD}
+use Rattle.slices.specs.Lists.{sumXor, zipXor}
+use Rattle.poly.specs.Sum.{sum}
+use Rattle.poly.specs.Balance.{valuesS, valuesT, valuesP, checkPoly, OneChallenge, FewRoots}
+use Rattle.banquet.specs.declared.Shape.{Shape}
+use Rattle.banquet.specs.Shape.{sboxAt}
+use Rattle.banquet.specs.Scheme.{Scheme, GoodKey, wideOps, Wide, lifted}
+use Rattle.banquet.specs.Hash.{commitment}
+use Rattle.banquet.specs.Key.{ciphertextOf}
+use Rattle.banquet.specs.Execution.{Committed, Challenge, tapeKey, tapeInverses, tapeS, tapeT, inputShares, productAt}
+use Rattle.banquet.specs.Opening.{
+  transcriptOf,
+  hiddenOf,
+  siblingsOf,
+  saltOf,
+  executionOf,
+  challengeOf,
+  tapeUnder,
+  shownSeed,
+  committedOf,
+}
+
+-- ---- what all parties' tapes give
+
+module _ (𝓢 : Scheme) (x : Committed) (d : Challenge) (tapes : ℕ → List ℕ) where
+  open Shape (𝓢 .shape) using (parties, m1, m2)
+
+  -- "The key given is the key offset plus all key shares; inverses likewise"
+  unfoldable pub givenKey : List ℕ
+  givenKey = zipXor (x .keyOffset) (sumXor parties (λ i. tapeKey 𝓢 (tapes i)))
+
+  unfoldable pub givenInverses : List ℕ
+  givenInverses = zipXor (x .inverseOffsets) (sumXor parties (λ i. tapeInverses 𝓢 (tapes i)))
+
+  -- "S-box inputs are the sums of the input shares, extra points those of s and t."
+  unfoldable pub givenInputs : List ℕ
+  givenInputs = sumXor parties (λ i. inputShares 𝓢 x i (tapes i))
+
+  abbrev pub givenS : ℕ → ℕ
+  givenS j = sum (wideOps 𝓢) parties (λ i. tapeS 𝓢 (tapes i) j)
+
+  abbrev pub givenT : ℕ → ℕ
+  givenT j = sum (wideOps 𝓢) parties (λ i. tapeT 𝓢 (tapes i) j)
+
+  -- the lifted input and inverse of S-box j+10k
+  unfoldable pub givenInput : ℕ → ℕ → ℕ
+  givenInput j k = lifted 𝓢 (getD givenInputs (sboxAt (𝓢 .shape) j k) 0)
+
+  unfoldable pub givenInverse : ℕ → ℕ → ℕ
+  givenInverse j k = lifted 𝓢 (getD givenInverses (sboxAt (𝓢 .shape) j k) 0)
+
+  -- P's values "from its shares" at the points 20 to 40
+  abbrev pub givenProduct : ℕ → ℕ
+  givenProduct k = sum (wideOps 𝓢) parties (λ i. productAt 𝓢 x i (tapes i) d k)
+
+  -- "Rows, S_j, T_j, P and the check polynomial are taken from these, the product offsets and the draws."
+  abbrev pub checkPolynomial : List ℕ
+  checkPolynomial =
+      checkPoly (wideOps 𝓢) m1 m2 (λ k. k) (valuesS (wideOps 𝓢) m1 m2 (d .first) givenInput givenS)
+      (valuesT (wideOps 𝓢) m1 m2 givenInverse givenT) (valuesP (wideOps 𝓢) m1 m2 (sum (wideOps 𝓢) m1 (d .first)) givenProduct)
+
+  -- "That key is then good, or one of two things holds: one of the ten first draws, beside the other nine, balances all twenty rows, and every other
+  -- value in its place leaves some row out of balance; or the check polynomial isn't zero, has at most 40 roots, and the second draw is one of them."
+  abbrev pub GoodOrLucky : List ℕ → Type 0
+  GoodOrLucky ciphertext =
+      GoodKey 𝓢 (x .front) ciphertext givenKey
+      ⊎ (OneChallenge (wideOps 𝓢) (Wide 𝓢) m1 m2 (d .first) givenInput givenInverse
+      ⊎ FewRoots (wideOps 𝓢) (Wide 𝓢) m1 m2 checkPolynomial (d .second))
+
+-- ---- two openings
+
+-- the seeds under which an opening shows parties
+abbrev pub seedsOf : Scheme → List ℕ → ℕ → List ℕ
+seedsOf 𝓢 o i = shownSeed 𝓢 (transcriptOf 𝓢 o) (hiddenOf 𝓢 o) (siblingsOf 𝓢 o) i
+
+module _ (𝓢 : Scheme) (publicKey o o′ : List ℕ) where
+  open Shape (𝓢 .shape) using (parties)
+
+  abbrev t : List ℕ
+  t = transcriptOf 𝓢 o
+
+  -- "the two show some party under two unequal seeds with one commitment"
+  abbrev pub Collision : Type 0
+  Collision =
+      (i : ℕ) × (i < parties) × (i ≢ hiddenOf 𝓢 o) × (i ≢ hiddenOf 𝓢 o′) × (seedsOf 𝓢 o i ≢ seedsOf 𝓢 o′ i)
+      × (commitment 𝓢 (saltOf 𝓢 t) (executionOf 𝓢 t) i (seedsOf 𝓢 o i) ≡ commitment 𝓢 (saltOf 𝓢 t) (executionOf 𝓢 t) i (seedsOf 𝓢 o′ i))
+
+  -- "they show each of the sixteen parties under one seed only"
+  abbrev pub ShowUnder : (ℕ → List ℕ) → Type 0
+  ShowUnder seed = (i : ℕ) → i < parties → (i ≢ hiddenOf 𝓢 o → seed i ≡ seedsOf 𝓢 o i) × (i ≢ hiddenOf 𝓢 o′ → seed i ≡ seedsOf 𝓢 o′ i)
+
+  -- "and these seeds and the key offset give one key. That key is then good, or .."; "One seed for each party gives, with salt and execution, all the
+  -- tapes."
+  abbrev pub OneSeedEach : Type 0
+  OneSeedEach =
+      (seed : ℕ → List ℕ) × ShowUnder seed
+      × GoodOrLucky 𝓢 (committedOf 𝓢 publicKey t) (challengeOf 𝓢 t) (λ i. tapeUnder 𝓢 t i (seed i)) (ciphertextOf 𝓢 publicKey)
