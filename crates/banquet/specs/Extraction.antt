@@ -27,7 +27,7 @@ use Rattle.banquet.specs.Opening.{
 
 -- ---- what all parties' tapes give
 
-module _ (𝓢 : Scheme) (x : Committed) (d : Challenge) (tapes : ℕ → List ℕ) where
+module _ (𝓢 : Scheme) (x : Committed) (tapes : ℕ → List ℕ) where
   open Shape (𝓢 .shape) using (parties, m1, m2)
 
   -- "The key given is the key offset plus all key shares; inverses likewise"
@@ -48,29 +48,30 @@ module _ (𝓢 : Scheme) (x : Committed) (d : Challenge) (tapes : ℕ → List �
   givenT j = sum (wideOps 𝓢) parties (λ i. tapeT 𝓢 (tapes i) j)
 
   -- the lifted input and inverse of S-box j+10k
-  unfoldable pub givenInput : ℕ → ℕ → ℕ
+  abbrev pub givenInput : ℕ → ℕ → ℕ
   givenInput j k = lifted 𝓢 (getD givenInputs (sboxAt (𝓢 .shape) j k) 0)
 
-  unfoldable pub givenInverse : ℕ → ℕ → ℕ
+  abbrev pub givenInverse : ℕ → ℕ → ℕ
   givenInverse j k = lifted 𝓢 (getD givenInverses (sboxAt (𝓢 .shape) j k) 0)
 
-  -- P's values "from its shares" at the points 20 to 40
-  abbrev pub givenProduct : ℕ → ℕ
-  givenProduct k = sum (wideOps 𝓢) parties (λ i. productAt 𝓢 x i (tapes i) d k)
-
   -- "Rows, S_j, T_j, P and the check polynomial are taken from these, the product offsets and the draws."
-  abbrev pub checkPolynomial : List ℕ
-  checkPolynomial =
-      checkPoly (wideOps 𝓢) m1 m2 (λ k. k) (valuesS (wideOps 𝓢) m1 m2 (d .first) givenInput givenS)
-      (valuesT (wideOps 𝓢) m1 m2 givenInverse givenT) (valuesP (wideOps 𝓢) m1 m2 (sum (wideOps 𝓢) m1 (d .first)) givenProduct)
+  module _ (d : Challenge) where
+    -- P at the points 20 to 40, "from its shares"
+    abbrev pub givenProduct : ℕ → ℕ
+    givenProduct k = sum (wideOps 𝓢) parties (λ i. productAt 𝓢 x i (tapes i) d k)
 
-  -- "That key is then good, or one of two things holds: one of the ten first draws, beside the other nine, balances all twenty rows, and every other
-  -- value in its place leaves some row out of balance; or the check polynomial isn't zero, has at most 40 roots, and the second draw is one of them."
-  abbrev pub GoodOrLucky : List ℕ → Type 0
-  GoodOrLucky ciphertext =
-      GoodKey 𝓢 (x .front) ciphertext givenKey
-      ⊎ (OneChallenge (wideOps 𝓢) (Wide 𝓢) m1 m2 (d .first) givenInput givenInverse
-      ⊎ FewRoots (wideOps 𝓢) (Wide 𝓢) m1 m2 checkPolynomial (d .second))
+    abbrev pub checkPolynomial : List ℕ
+    checkPolynomial =
+        checkPoly (wideOps 𝓢) m1 m2 (λ k. k) (valuesS (wideOps 𝓢) m1 m2 (d .first) givenInput givenS)
+        (valuesT (wideOps 𝓢) m1 m2 givenInverse givenT) (valuesP (wideOps 𝓢) m1 m2 (sum (wideOps 𝓢) m1 (d .first)) givenProduct)
+
+    -- "That key is then good, or one of two things holds: one of the ten first draws, beside the other nine, balances all twenty rows, and every other
+    -- value in its place leaves some row out of balance; or the check polynomial isn't zero, has at most 40 roots, and the second draw is one of them."
+    abbrev pub GoodOrLucky : List ℕ → Type 0
+    GoodOrLucky ciphertext =
+        GoodKey 𝓢 (x .front) ciphertext givenKey
+        ⊎ (OneChallenge (wideOps 𝓢) (Wide 𝓢) m1 m2 (d .first) givenInput givenInverse
+        ⊎ FewRoots (wideOps 𝓢) (Wide 𝓢) m1 m2 checkPolynomial (d .second))
 
 -- ---- two openings
 
@@ -99,4 +100,4 @@ module _ (𝓢 : Scheme) (publicKey o o′ : List ℕ) where
   abbrev pub OneSeedEach : Type 0
   OneSeedEach =
       (seed : ℕ → List ℕ) × ShowUnder seed
-      × GoodOrLucky 𝓢 (committedOf 𝓢 publicKey t) (challengeOf 𝓢 t) (λ i. tapeUnder 𝓢 t i (seed i)) (ciphertextOf 𝓢 publicKey)
+      × GoodOrLucky 𝓢 (committedOf 𝓢 publicKey t) (λ i. tapeUnder 𝓢 t i (seed i)) (challengeOf 𝓢 t) (ciphertextOf 𝓢 publicKey)

@@ -52,7 +52,7 @@ dec-below d n = ⊎-elim yes (λ e. no (λ f. e .2 (f (e .0) (e .1)))) (all-belo
 
 -- Two families a and b, of which a isn't known at h and b isn't known at h′: they differ where both are known, or they are
 -- parts of one family.
-pub merge : {C : Type 0} → Discrete C → (n h h′ : ℕ) (a b : ℕ → C)
+merge : {C : Type 0} → Discrete C → (n h h′ : ℕ) (a b : ℕ → C)
     → ((i : ℕ) × (i < n) × (i ≢ h) × (i ≢ h′) × (a i ≢ b i))
     ⊎ ((i : ℕ) → i < n → (i ≢ h → update a h (b h) i ≡ a i) × (i ≢ h′ → update a h (b h) i ≡ b i))
 merge d n h h′ a b = ⊎-elim (λ f. inr (λ i l. (at-other i h (b h) (a i), one f i l))) (λ e. inl (two e)) (all-below same n)
@@ -76,11 +76,11 @@ merge d n h h′ a b = ⊎-elim (λ f. inr (λ i l. (at-other i h (b h) (a i), o
 -- which both show parts.
 pub clash-or-merged : {C : Type 0} → Discrete C → (Q : ℕ → C → Type 0) (n h h′ : ℕ) → h ≢ h′ → (a b : ℕ → C)
     → ((i : ℕ) → i < n → i ≢ h → Q i (a i)) → ((i : ℕ) → i < n → i ≢ h′ → Q i (b i))
-    → ((i : ℕ) × (i < n) × (a i ≢ b i) × Q i (a i) × Q i (b i))
+    → ((i : ℕ) × (i < n) × (i ≢ h) × (i ≢ h′) × (a i ≢ b i) × Q i (a i) × Q i (b i))
     ⊎ ((s : ℕ → C) × ((i : ℕ) → i < n → Q i (s i)) × ((i : ℕ) → i < n → i ≢ h → s i ≡ a i)
     × ((i : ℕ) → i < n → i ≢ h′ → s i ≡ b i))
 clash-or-merged d Q n h h′ ne a b qa qb =
-    ⊎-elim (λ (i, l, x, y, z). inl (i, l, z, qa i l x, qb i l y))
+    ⊎-elim (λ (i, l, x, y, z). inl (i, l, x, y, z, qa i l x, qb i l y))
     (λ f. inr (update a h (b h), shown, λ i l. f i l .0, λ i l. f i l .1))
     (merge d n h h′ a b)
   where

@@ -2,13 +2,13 @@
 use mathlib.Core.Path.{_≡_, refl, sym, ap, ap₂, _∙_}
 use mathlib.Core.List.{List, [], _∷_, _++_}
 use Prim.Native.Nat.{ℕ, zero, suc, _+_, _*_, _/_, _%_, _^_, _<_, _≤_}
-use native.Mathlib.Nat.{mod-lt, zero-lt-suc, not-suc-le-zero, le-of-suc-le-suc, mod-one}
+use native.Mathlib.Nat.{mod-lt, mod-eq-of-lt, zero-lt-suc, not-suc-le-zero, le-of-suc-le-suc, mod-one}
 use native.Mathlib.Omega.{arith}
-use lib.ListN.{length, getD}
+use lib.ListN.{length, getD, length-take}
 use lib.Pow.{pow-pos, pow-add, shr-shr, mod-pow-add}
 use Rattle.slices.specs.Lists.{rows, row}
 use Rattle.slices.specs.Tab.{length-rows, row-of-rows}
-use Rattle.slices.specs.Bytes.{Bytes, nil-bytes, cons-bytes, tail-bytes, rows-bytes}
+use Rattle.slices.specs.Bytes.{Bytes, nil-bytes, cons-bytes, tail-bytes, rows-bytes, part-bytes}
 
 unfoldable pub number : List ℕ → ℕ
 number [] = 0
@@ -105,3 +105,10 @@ numbers-bytes w n f = rows-bytes (λ k. bytesOf w (f k)) n (λ k l. bytesOf-byte
 pub numberAt-numbers : (w n : ℕ) (f : ℕ → ℕ) (k : ℕ) → k < n → numberAt w k (numbers w n f) ≡ f k % 2 ^ (8 * w)
 numberAt-numbers w n f k l =
     ap number (row-of-rows w (λ k. bytesOf w (f k)) n (λ k l. length-bytesOf w (f k)) k l) ∙ number-bytesOf w (f k)
+
+-- one that fits in w bytes
+pub numberAt-numbers-lt : (w n : ℕ) (f : ℕ → ℕ) (k : ℕ) → k < n → f k < 2 ^ (8 * w) → numberAt w k (numbers w n f) ≡ f k
+numberAt-numbers-lt w n f k l h = numberAt-numbers w n f k l ∙ mod-eq-of-lt h
+
+pub numberAt-lt : (w k : ℕ) {s : List ℕ} → Bytes s → numberAt w k s < 2 ^ (8 * w)
+numberAt-lt w k {s} p = number-lt (row w k s) w (part-bytes (k * w) w s p) (rw length-take (omega arith))

@@ -1,11 +1,13 @@
 -- Laws of sums of lists, `zipXor` and `sumXor`. Assumes nothing.
 use mathlib.Core.Path.{_≡_, refl, sym, ap, ap₂, _∙_}
 use mathlib.Core.List.{List, [], _∷_, _++_}
-use Prim.Native.Nat.{ℕ, zero, suc, _<_, max}
+use Prim.Native.Nat.{ℕ, zero, suc, _<_, _≤_, max}
 use native.Mathlib.Omega.{arith}
-use lib.Bits.{bitXor, xor-zero-r, xor-lt}
+use lib.Bits.{bitXor, xor-zero-r, xor-lt, xor-self}
+use lib.Seq.{ext-getD}
 use lib.ListN.{length, getD, drop, replicate}
 use Rattle.slices.specs.Lists.{tab, zipXor, sumXor}
+use Rattle.slices.specs.Xor.{xor-assoc}
 use Rattle.slices.specs.Tab.{tab-list, tab-sized}
 use Rattle.slices.specs.Bytes.{Bytes, Sized, nil-bytes}
 
@@ -67,6 +69,14 @@ zip-bytes {xs} {ys} p q = record { lt = λ i. rw (getD-zip xs ys i) (xor-lt 8 (g
 pub sized-zip : {n : ℕ} {xs ys : List ℕ} → Sized n xs → Sized n ys → Sized n (zipXor xs ys)
 sized-zip {n} {xs} {ys} p q = record { size = length-zip n xs ys (p .size) (q .size); bytes = zip-bytes (p .bytes) (q .bytes) }
 
+-- what is added twice is gone
+pub zip-undo : {n : ℕ} {xs ys : List ℕ} → Sized n xs → Sized n ys → zipXor (zipXor xs ys) ys ≡ xs
+zip-undo {n} {xs} {ys} p q =
+    ext-getD 0 _ _ (sized-zip (sized-zip p q) q .size ∙ sym (p .size))
+    (λ k l.
+    getD-zip (zipXor xs ys) ys k ∙ ap (λ (a : ℕ). bitXor a (getD ys k 0)) (getD-zip xs ys k) ∙ xor-assoc (getD xs k 0) (getD ys k 0) (getD ys k 0)
+    ∙ ap (bitXor (getD xs k 0)) (xor-self (getD ys k 0)) ∙ xor-zero-r (getD xs k 0))
+
 -- ---- many lists
 
 pub sumXor-cong : (n : ℕ) {f g : ℕ → List ℕ} → ((i : ℕ) → i < n → f i ≡ g i) → sumXor n f ≡ sumXor n g
@@ -84,3 +94,14 @@ unfolding sumXor zipXor
 sized-sum zero l h = absurd (omega arith)
 sized-sum (suc zero) l h = h 0 l
 sized-sum (suc (suc n)) l h = sized-zip (sized-sum (suc n) (omega arith) (λ i k. h i (omega arith))) (h (suc n) (omega arith))
+
+length-sum-le : (size n : ℕ) (f : ℕ → List ℕ) → ((i : ℕ) → i < n → length (f i) ≤ size) → length (sumXor n f) ≤ size
+unfolding sumXor
+length-sum-le size zero f h = omega arith
+length-sum-le size (suc n) f h =
+    rw (length-zip-max (sumXor n f)) (omega (arith, length-sum-le size n f (λ i l. h i (omega arith)), h n (omega arith)))
+
+-- lists of at most size elements added to one of size elements
+pub length-zip-sum : (size n : ℕ) (s : List ℕ) (f : ℕ → List ℕ) → length s ≡ size → ((i : ℕ) → i < n → length (f i) ≤ size)
+    → length (zipXor s (sumXor n f)) ≡ size
+length-zip-sum size n s f e h = rw (length-zip-max s) (omega (arith, length-sum-le size n f h))

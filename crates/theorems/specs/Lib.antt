@@ -1,0 +1,10 @@
+-- The theorems, from the definitions of `banquet` alone.
+pub mod Laws
+pub mod Wide
+pub mod Refusals
+pub mod Seeds
+pub mod Shares
+pub mod Keys
+pub mod OpeningChecks
+pub mod SignatureChecks
+pub mod Soundness
