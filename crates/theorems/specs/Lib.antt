@@ -8,3 +8,5 @@ pub mod Keys
 pub mod OpeningChecks
 pub mod SignatureChecks
 pub mod Soundness
+pub mod Opened
+pub mod Honest
