@@ -10,3 +10,6 @@ pub mod SignatureChecks
 pub mod Soundness
 pub mod Opened
 pub mod Honest
+pub mod OpeningComplete
+pub mod Recomputed
+pub mod SignatureComplete
