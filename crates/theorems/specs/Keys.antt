@@ -1,11 +1,11 @@
 -- Numbers 11 and 12 are passed exactly by good keys, and a key that a public key was made from is good for it. Assumes nothing.
-use mathlib.Core.Path.{_≡_, refl, sym, _∙_, subst, subst₂}
+use mathlib.Core.Path.{_≡_, refl, sym, ap₂, _∙_, subst, subst₂}
 use mathlib.Core.Logic.{_≢_}
 use mathlib.Core.List.{List}
-use Prim.Native.Nat.{ℕ, _<_}
+use Prim.Native.Nat.{ℕ, _+_, _<_}
 use lib.Dec.{lit<}
 use borrow.Author.Tests.{eqb-true, eq-eqb}
-use lib.ListN.{length, getD, length-take}
+use lib.ListN.{length, getD, length-take, length-append}
 use lib.Seq.{take-at, drop-at}
 use native.Mathlib.Omega.{arith}
 use Rattle.slices.specs.Bytes.{Bytes, Sized, take-bytes}
@@ -30,6 +30,11 @@ module _ (𝓢 : Scheme) (L : Laws 𝓢) where
       subst (Sized (sboxes (𝓢 .shape)))
       (L .circuit sf .true-inverses key (trueInverses 𝓢 f key) (map-inverted _ (𝓢 .circuit .sboxInputs f key)) .same-inputs)
       (L .circuit sf .inputs-sized (share 1 key (trueInverses 𝓢 f key)) kb)
+
+  sized-encrypt : {f key : List ℕ} → Sized (𝓢 .shape .front) f → Bytes key → Sized 16 (𝓢 .circuit .encrypt f key)
+  sized-encrypt {f} {key} sf kb =
+      subst (Sized 16) (L .circuit sf .true-inverses key (trueInverses 𝓢 f key) (map-inverted _ (𝓢 .circuit .sboxInputs f key)) .same-output)
+      (L .circuit sf .output-sized (share 1 key (trueInverses 𝓢 f key)) kb)
 
   pub sized-front : {publicKey : List ℕ} → Sized (publicKeyLength (𝓢 .shape)) publicKey → Sized (𝓢 .shape .front) (frontOf 𝓢 publicKey)
   sized-front {publicKey} h = record {
@@ -66,6 +71,15 @@ module _ (𝓢 : Scheme) (L : Laws 𝓢) where
     pub key-join : GoodKey 𝓢 (frontOf 𝓢 publicKey) (ciphertextOf 𝓢 publicKey) key → rest ≡ Accepted → checkKey 𝓢 publicKey key rest ≡ Accepted
     unfolding checkKey
     key-join g e = inputs-join (sized-front sp) kb _ (g .no-zero) (require-join _ _ _ (same-refl _ _ (g .encrypts)) e)
+
+  pub publicKeyOf-size : (key plaintext output : List ℕ) → Bytes key → Bytes plaintext → publicKeyAnswer 𝓢 key plaintext output ≡ Accepted
+      → length (publicKeyOf 𝓢 key plaintext) ≡ publicKeyLength (𝓢 .shape)
+  unfolding publicKeyAnswer publicKeyOf
+  publicKeyOf-size key plaintext output kb pb acc =
+      let a = require-split _ _ _ (lit< tt) acc in
+      let b = require-split _ _ _ (lit< tt) (a .1) in
+      let size : length plaintext ≡ 𝓢 .shape .front = eqb-true _ _ (b .0) in
+      length-append plaintext _ ∙ ap₂ _+_ size (sized-encrypt (record { size = size; bytes = pb }) kb .size)
 
   -- A key that a public key was made from is good for it.
   pub made-key-good : (key plaintext output : List ℕ) → Bytes key → Bytes plaintext → publicKeyAnswer 𝓢 key plaintext output ≡ Accepted

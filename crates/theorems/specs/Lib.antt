@@ -13,3 +13,6 @@ pub mod Honest
 pub mod OpeningComplete
 pub mod Recomputed
 pub mod SignatureComplete
+pub mod Sets
+pub mod Written
+pub mod Base

@@ -194,9 +194,35 @@ module _ (𝓢 : Scheme) (L : Laws 𝓢) (key publicKey salt root firstBytes : L
   sizes : HasSizes (transcriptSizes (𝓢 .shape)) fields
   unfolding productOffsets
   sizes = (
-    input .salt-size, (refl, (length-rows 32 _ parties commitment-size, (length-rows 16 _ parties output-size, (fits .fits-key .size,
-    (fits .fits-inverses .size, (input .first-sized .size, (length-numbers wide (suc m2) _, (length-bytesOf wide R, (length-numbers wide parties c,
-    (length-rows (m1 * wide) _ parties (numbers-size a), (length-rows (m1 * wide) _ parties (numbers-size b), tt))))))))))),
+    input .salt-size,
+    (
+      refl,
+      (
+        length-rows 32 _ parties commitment-size,
+        (
+          length-rows 16 _ parties output-size,
+          (
+            fits .fits-key .size,
+            (
+              fits .fits-inverses .size,
+              (
+                input .first-sized .size,
+                (
+                  length-numbers wide (suc m2) _,
+                  (
+                    length-bytesOf wide R,
+                    (
+                      length-numbers wide parties c,
+                      (length-rows (m1 * wide) _ parties (numbers-size a), (length-rows (m1 * wide) _ parties (numbers-size b), tt)),
+                    ),
+                  ),
+                ),
+              ),
+            ),
+          ),
+        ),
+      ),
+    ),
   )
 
   is : (k : ℕ) → field (transcriptSizes (𝓢 .shape)) k t ≡ getD fields k []

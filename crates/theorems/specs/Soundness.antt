@@ -139,87 +139,87 @@ module _ (𝓢 : Scheme) (L : Laws 𝓢) where
   -- ---- one transcript t, and a seed for every party with which what is stated holds
 
   module _ (publicKey t : List ℕ) (key-sized : Sized (publicKeyLength (𝓢 .shape)) publicKey) (sized : Sized (total (transcriptSizes (𝓢 .shape))) t)
-      where
-    abbrev x : Committed
-    x = committedOf 𝓢 publicKey t
+    where
+      abbrev x : Committed
+      x = committedOf 𝓢 publicKey t
 
-    abbrev d : Challenge
-    d = challengeOf 𝓢 t
+      abbrev d : Challenge
+      d = challengeOf 𝓢 t
 
-    part-bytes : (k : ℕ) → Bytes (field (transcriptSizes (𝓢 .shape)) k t)
-    part-bytes k = field-bytes (transcriptSizes (𝓢 .shape)) k t (sized .bytes)
+      part-bytes : (k : ℕ) → Bytes (field (transcriptSizes (𝓢 .shape)) k t)
+      part-bytes k = field-bytes (transcriptSizes (𝓢 .shape)) k t (sized .bytes)
 
-    wide-second : Wide 𝓢 (d .second)
-    wide-second = number-lt _ wide (part-bytes 8) (length-field-le (transcriptSizes (𝓢 .shape)) 8 t)
+      wide-second : Wide 𝓢 (d .second)
+      wide-second = number-lt _ wide (part-bytes 8) (length-field-le (transcriptSizes (𝓢 .shape)) 8 t)
 
-    fits : Fits 𝓢 L x
-    fits = record {
-      fits-front = sized-front 𝓢 L key-sized;
-      fits-key = sized-field (transcriptSizes (𝓢 .shape)) 4 sized;
-      fits-inverses = sized-field (transcriptSizes (𝓢 .shape)) 5 sized;
-    }
-
-    module _ (seed : ℕ → List ℕ) (holds : (i : ℕ) → i < parties → PartyHolds 𝓢 publicKey t i (seed i)) {h : ℕ} {seeds : ℕ → List ℕ}
-        (o : TranscriptHolds 𝓢 publicKey t h seeds) where
-      abbrev tapes : ℕ → List ℕ
-      tapes i = tapeUnder 𝓢 t i (seed i)
-
-      ts : (i : ℕ) → IsTape 𝓢 L (tapes i)
-      ts i = hashed-tape 𝓢 L (saltOf 𝓢 t) (executionOf 𝓢 t) i (seed i)
-
-      abbrev X : ℕ → ℕ → ℕ → ℕ
-      X i = inputAt 𝓢 x i (tapes i)
-
-      abbrev Y : ℕ → ℕ → ℕ → ℕ
-      Y i = inverseAt 𝓢 x i (tapes i)
-
-      execution : Execution (wideOps 𝓢) (Wide 𝓢) (λ k. k) parties m1 m2 (d .first) X Y
-          (λ i. tapeS 𝓢 (tapes i)) (λ i. tapeT 𝓢 (tapes i)) (λ i. productAt 𝓢 x i (tapes i) d) (d .second) (cOf 𝓢 t) (aOf 𝓢 t) (bOf 𝓢 t)
-      unfolding inputAt inverseAt productAt openedC openedA openedB
-      execution = record {
-        elem-r = λ j l. wide-number 𝓢 L j (part-bytes 6);
-        elem-X = λ i j k l m n. L .embedding .lt _;
-        elem-Y = λ i j k l m n. L .embedding .lt _;
-        elem-s = λ i j l m. wide-number 𝓢 L (2 * j) (tape-bytes 𝓢 L (ts i) 2);
-        elem-t = λ i j l m. wide-number 𝓢 L (2 * j + 1) (tape-bytes 𝓢 L (ts i) 2);
-        elem-v = λ i k l m n. at-cases (Wide 𝓢) i 0 _ _
-            (λ e. xor-lt (8 * wide) _ _ (wide-number 𝓢 L _ (tape-bytes 𝓢 L (ts i) 3)) (wide-number 𝓢 L _ (part-bytes 7)))
-            (λ e. wide-number 𝓢 L _ (tape-bytes 𝓢 L (ts i) 3));
-        c-is = λ i l. sym (holds i l .opens-c) ∙ eval-interpolate F (λ k. k) (suc (2 * m2)) _ (d .second);
-        a-is = λ i j l m. sym (holds i l .opens-a j m) ∙ eval-interpolate F (λ k. k) (suc m2) _ (d .second);
-        b-is = λ i j l m. sym (holds i l .opens-b j m) ∙ eval-interpolate F (λ k. k) (suc m2) _ (d .second);
-        passes = o .product;
+      fits : Fits 𝓢 L x
+      fits = record {
+        fits-front = sized-front 𝓢 L key-sized;
+        fits-key = sized-field (transcriptSizes (𝓢 .shape)) 4 sized;
+        fits-inverses = sized-field (transcriptSizes (𝓢 .shape)) 5 sized;
       }
 
-      -- the sums of lifted shares are the lifted sums
-      sums-X : totals (wideOps 𝓢) parties X ≡ givenInput 𝓢 x tapes
-      sums-X = λ i j k. total-inputs 𝓢 L x fits tapes (λ i l. ts i) j k i
+      module _ (seed : ℕ → List ℕ) (holds : (i : ℕ) → i < parties → PartyHolds 𝓢 publicKey t i (seed i)) {h : ℕ} {seeds : ℕ → List ℕ}
+          (o : TranscriptHolds 𝓢 publicKey t h seeds) where
+        abbrev tapes : ℕ → List ℕ
+        tapes i = tapeUnder 𝓢 t i (seed i)
 
-      sums-Y : totals (wideOps 𝓢) parties Y ≡ givenInverse 𝓢 x tapes
-      sums-Y = λ i j k. total-inverses 𝓢 L x fits tapes (λ i l. ts i) j k i
+        ts : (i : ℕ) → IsTape 𝓢 L (tapes i)
+        ts i = hashed-tape 𝓢 L (saltOf 𝓢 t) (executionOf 𝓢 t) i (seed i)
 
-      -- "That key is then good, or one of two things holds"
-      good-or-lucky : GoodOrLucky 𝓢 x tapes d (ciphertextOf 𝓢 publicKey)
-      good-or-lucky = ⊎-elim (λ ones. inl (key-good x fits tapes (λ i l. ts i) (ciphertextOf 𝓢 publicKey) outputs ones)) inr checked
-        where
-          outputs : sumXor parties (λ i. outputShare 𝓢 x i (tapes i)) ≡ ciphertextOf 𝓢 publicKey
-          outputs = sumXor-cong parties (λ i l. holds i l .outputs) ∙ o .ciphertext
+        abbrev X : ℕ → ℕ → ℕ → ℕ
+        X i = inputAt 𝓢 x i (tapes i)
 
-          -- all products are one, or luck, of inputs u and inverses v
-          Passed : (ℕ → ℕ → ℕ) → (ℕ → ℕ → ℕ) → Type 0
-          Passed u v =
-              AllOne (wideOps 𝓢) m1 m2 u v
-              ⊎ (OneChallenge (wideOps 𝓢) (Wide 𝓢) m1 m2 (d .first) u v
-              ⊎ FewRoots (wideOps 𝓢) (Wide 𝓢) m1 m2
-              (checkPoly (wideOps 𝓢) m1 m2 (λ k. k) (valuesS (wideOps 𝓢) m1 m2 (d .first) u (givenS 𝓢 x tapes))
-              (valuesT (wideOps 𝓢) m1 m2 v (givenT 𝓢 x tapes))
-              (valuesP (wideOps 𝓢) m1 m2 (sum (wideOps 𝓢) m1 (d .first)) (givenProduct 𝓢 x tapes d)))
-              (d .second))
+        abbrev Y : ℕ → ℕ → ℕ → ℕ
+        Y i = inverseAt 𝓢 x i (tapes i)
 
-          checked : Passed (givenInput 𝓢 x tapes) (givenInverse 𝓢 x tapes)
-          checked =
-              subst₂ (λ (u v : ℕ → ℕ → ℕ). Passed u v) sums-X sums-Y
-              (execution-check F parties m1 m2 execution (L .some-party) (wide-points 𝓢 L) wide-second)
+        execution : Execution (wideOps 𝓢) (Wide 𝓢) (λ k. k) parties m1 m2 (d .first) X Y
+            (λ i. tapeS 𝓢 (tapes i)) (λ i. tapeT 𝓢 (tapes i)) (λ i. productAt 𝓢 x i (tapes i) d) (d .second) (cOf 𝓢 t) (aOf 𝓢 t) (bOf 𝓢 t)
+        unfolding inputAt inverseAt productAt openedC openedA openedB
+        execution = record {
+          elem-r = λ j l. wide-number 𝓢 L j (part-bytes 6);
+          elem-X = λ i j k l m n. L .embedding .lt _;
+          elem-Y = λ i j k l m n. L .embedding .lt _;
+          elem-s = λ i j l m. wide-number 𝓢 L (2 * j) (tape-bytes 𝓢 L (ts i) 2);
+          elem-t = λ i j l m. wide-number 𝓢 L (2 * j + 1) (tape-bytes 𝓢 L (ts i) 2);
+          elem-v = λ i k l m n. at-cases (Wide 𝓢) i 0 _ _
+              (λ e. xor-lt (8 * wide) _ _ (wide-number 𝓢 L _ (tape-bytes 𝓢 L (ts i) 3)) (wide-number 𝓢 L _ (part-bytes 7)))
+              (λ e. wide-number 𝓢 L _ (tape-bytes 𝓢 L (ts i) 3));
+          c-is = λ i l. sym (holds i l .opens-c) ∙ eval-interpolate F (λ k. k) (suc (2 * m2)) _ (d .second);
+          a-is = λ i j l m. sym (holds i l .opens-a j m) ∙ eval-interpolate F (λ k. k) (suc m2) _ (d .second);
+          b-is = λ i j l m. sym (holds i l .opens-b j m) ∙ eval-interpolate F (λ k. k) (suc m2) _ (d .second);
+          passes = o .product;
+        }
+
+        -- the sums of lifted shares are the lifted sums
+        sums-X : totals (wideOps 𝓢) parties X ≡ givenInput 𝓢 x tapes
+        sums-X = λ i j k. total-inputs 𝓢 L x fits tapes (λ i l. ts i) j k i
+
+        sums-Y : totals (wideOps 𝓢) parties Y ≡ givenInverse 𝓢 x tapes
+        sums-Y = λ i j k. total-inverses 𝓢 L x fits tapes (λ i l. ts i) j k i
+
+        -- "That key is then good, or one of two things holds"
+        good-or-lucky : GoodOrLucky 𝓢 x tapes d (ciphertextOf 𝓢 publicKey)
+        good-or-lucky = ⊎-elim (λ ones. inl (key-good x fits tapes (λ i l. ts i) (ciphertextOf 𝓢 publicKey) outputs ones)) inr checked
+          where
+            outputs : sumXor parties (λ i. outputShare 𝓢 x i (tapes i)) ≡ ciphertextOf 𝓢 publicKey
+            outputs = sumXor-cong parties (λ i l. holds i l .outputs) ∙ o .ciphertext
+
+            -- all products are one, or luck, of inputs u and inverses v
+            Passed : (ℕ → ℕ → ℕ) → (ℕ → ℕ → ℕ) → Type 0
+            Passed u v =
+                AllOne (wideOps 𝓢) m1 m2 u v
+                ⊎ (OneChallenge (wideOps 𝓢) (Wide 𝓢) m1 m2 (d .first) u v
+                ⊎ FewRoots (wideOps 𝓢) (Wide 𝓢) m1 m2
+                (checkPoly (wideOps 𝓢) m1 m2 (λ k. k) (valuesS (wideOps 𝓢) m1 m2 (d .first) u (givenS 𝓢 x tapes))
+                (valuesT (wideOps 𝓢) m1 m2 v (givenT 𝓢 x tapes))
+                (valuesP (wideOps 𝓢) m1 m2 (sum (wideOps 𝓢) m1 (d .first)) (givenProduct 𝓢 x tapes d)))
+                (d .second))
+
+            checked : Passed (givenInput 𝓢 x tapes) (givenInverse 𝓢 x tapes)
+            checked =
+                subst₂ (λ (u v : ℕ → ℕ → ℕ). Passed u v) sums-X sums-Y
+                (execution-check F parties m1 m2 execution (L .some-party) (wide-points 𝓢 L) wide-second)
 
   -- ---- two openings
 
