@@ -13,7 +13,7 @@ use Rattle.banquet.specs.declared.Answer.{Answer}
 use Rattle.banquet.specs.declared.Answer.the-variants.{TextForm}
 use Rattle.banquet.specs.Shape.{messageLimit, workLength, publicKeyLength, headSizes, frameSizes}
 use Rattle.banquet.specs.Scheme.{Scheme}
-use Rattle.banquet.specs.Answer.{require, verdictOf}
+use Rattle.banquet.specs.Answer.{require}
 use Rattle.banquet.specs.Calls.{verifyAnswer}
 
 -- ---- digits

@@ -19,7 +19,7 @@ use Rattle.banquet.specs.declared.Answer.the-variants.{
   ShareDiffers,
   ProductDiffers,
 }
-use Rattle.banquet.specs.Shape.{firstChallengeLength, transcriptSizes}
+use Rattle.banquet.specs.Shape.{transcriptSizes}
 use Rattle.banquet.specs.Scheme.{Scheme, wideOps, wideMul}
 use Rattle.banquet.specs.Answer.{require, each, all}
 use Rattle.banquet.specs.Hash.{commitment, tape}

@@ -1,6 +1,6 @@
 -- An execution that the holder of a good key runs: the output shares add up to the ciphertext, and the opened sums pass the product check.
 -- Assumes nothing.
-use mathlib.Core.Path.{_≡_, sym, _∙_, ap, ap₂, subst}
+use mathlib.Core.Path.{_≡_, sym, _∙_, ap, ap₂}
 use mathlib.Core.List.{List}
 use Prim.Native.Nat.{ℕ, suc, _+_, _-_, _*_, _≤_, _<_}
 use native.Mathlib.Nat.{mul-comm}
@@ -54,7 +54,7 @@ use Rattle.banquet.specs.Signer.{
   productOffsetAt,
   productOffsets,
 }
-use Rattle.banquet.specs.Extraction.{givenKey, givenInverses, givenInputs, givenInput, givenInverse}
+use Rattle.banquet.specs.Extraction.{givenKey, givenInverses, givenInputs}
 use Rattle.theorems.specs.Laws.{Laws}
 use Rattle.theorems.specs.Wide.{wide-field, wide-points, wide-number}
 use Rattle.theorems.specs.Shares.{

@@ -10,7 +10,6 @@ use lib.Seq.{take-at, drop-at}
 use native.Mathlib.Omega.{arith}
 use Rattle.slices.specs.Bytes.{Bytes, Sized, take-bytes}
 use Rattle.slices.specs.Compare.{same-eq, same-refl}
-use Rattle.aes.specs.Aes.{Good}
 use Rattle.aes.specs.Zero.{firstZero-none, firstZero-length}
 use Rattle.circuit.specs.Sound.{map-inverted}
 use Rattle.circuit.specs.Circuit.{share}

@@ -10,9 +10,13 @@ pub mod SignatureChecks
 pub mod Soundness
 pub mod Opened
 pub mod Honest
+pub mod Inputs
 pub mod OpeningComplete
 pub mod Recomputed
+pub mod SignatureFrame
 pub mod SignatureComplete
 pub mod Sets
 pub mod Written
 pub mod Base
+pub mod BaseChecks
+pub mod BaseComplete

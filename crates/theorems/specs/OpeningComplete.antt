@@ -5,12 +5,10 @@ use mathlib.Core.List.{List, [], _∷_, _++_}
 use Prim.Native.Nat.{ℕ, zero, suc, _+_, _*_, _≤_, _<_}
 use native.Mathlib.Nat.{mod-eq-of-lt}
 use native.Mathlib.Omega.{arith}
-use lib.Dec.{lit<}
-use borrow.Author.Tests.{eqb-true, ltb-true, leb-true, eq-eqb, lt-ltb, le-leb}
 use lib.ListN.{length, getD, drop, length-append}
 use lib.Seq.{take-at, getD-at}
 use Rattle.slices.specs.Lists.{rows, row}
-use Rattle.slices.specs.Bytes.{Bytes, Sized}
+use Rattle.slices.specs.Bytes.{Sized}
 use Rattle.slices.specs.Tab.{length-rows, row-of-rows}
 use Rattle.slices.specs.Sums.{sumXor-cong}
 use Rattle.slices.specs.Numbers.{
@@ -27,11 +25,11 @@ use Rattle.slices.specs.Layout.{total, field, HasSizes, length-layout, field-la
 use Rattle.poly.specs.Sum.{sum-cong}
 use Rattle.banquet.specs.declared.Shape.{Shape}
 use Rattle.banquet.specs.declared.Answer.the-variants.{Accepted}
-use Rattle.banquet.specs.Shape.{workLength, publicKeyLength, firstChallengeLength, transcriptSizes, openingLength}
-use Rattle.banquet.specs.Scheme.{Scheme, GoodKey, wideOps, wideMul, Wide}
+use Rattle.banquet.specs.Shape.{workLength, transcriptSizes, openingLength}
+use Rattle.banquet.specs.Scheme.{Scheme, wideOps, wideMul, Wide}
 use Rattle.banquet.specs.Hash.{commitment, tape}
 use Rattle.banquet.specs.Tree.{siblingSeeds, shownLeaf}
-use Rattle.banquet.specs.Key.{frontOf, ciphertextOf, checkKey}
+use Rattle.banquet.specs.Key.{frontOf, ciphertextOf}
 use Rattle.banquet.specs.Execution.{Committed, Challenge, challenge, outputShare, openedC, openedA, openedB}
 use Rattle.banquet.specs.Signer.{seedOf, tapeOf, ownCommitted, productOffsets}
 use Rattle.banquet.specs.Opening.{
@@ -48,81 +46,21 @@ use Rattle.banquet.specs.Opening.{
   transcript,
   opening,
 }
-use Rattle.banquet.specs.Calls.{openAnswer, verifyOpeningAnswer}
+use Rattle.banquet.specs.Calls.{verifyOpeningAnswer}
 use Rattle.theorems.specs.Laws.{Laws}
-use Rattle.theorems.specs.Refusals.{require-split, require-join}
-use Rattle.theorems.specs.Keys.{sized-front, key-split, key-join}
+use Rattle.theorems.specs.Inputs.{OpenInput}
+use Rattle.theorems.specs.Keys.{sized-front}
 use Rattle.theorems.specs.OpeningChecks.{PartyHolds, TranscriptHolds, holds-opening}
 use Rattle.theorems.specs.Shares.{IsTape, hashed-tape, Fits, sized-outputShare}
 use Rattle.theorems.specs.Seeds.{length-siblingSeeds, shown-siblings}
 use Rattle.theorems.specs.Opened.{WideChallenge, wide-C, wide-A, wide-B}
 use Rattle.theorems.specs.Honest.{honest-fits, honest-outputs, honest-product, honest-wide}
 
--- ---- what opening accepts
-
-pub record OpenInput (𝓢 : Scheme) (key publicKey salt root firstBytes : List ℕ) (e R hidden : ℕ) : Type 0 where
-  pub key-sized : Sized 16 key
-  pub public-sized : Sized (publicKeyLength (𝓢 .shape)) publicKey
-  pub salt-size : length salt ≡ 32
-  pub root-size : length root ≡ 16
-  pub first-sized : Sized (firstChallengeLength (𝓢 .shape)) firstBytes
-  pub in-range : e < 𝓢 .shape .executions
-  pub hides : hidden < 𝓢 .shape .parties
-  pub second : 𝓢 .shape .m2 ≤ R
-  pub wide-R : Wide 𝓢 R
-  pub good : GoodKey 𝓢 (frontOf 𝓢 publicKey) (ciphertextOf 𝓢 publicKey) key
-
-module _ (𝓢 : Scheme) (L : Laws 𝓢) (key publicKey salt root firstBytes : List ℕ) (e R hidden : ℕ) (output work : List ℕ) where
-  pub open-split : Bytes key → Bytes publicKey → Bytes firstBytes → Wide 𝓢 R
-      → openAnswer 𝓢 key publicKey salt root firstBytes e R hidden output work ≡ Accepted → OpenInput 𝓢 key publicKey salt root firstBytes e R hidden
-  unfolding openAnswer
-  open-split kb pb fb wr acc =
-      let a = require-split _ _ _ (lit< tt) acc in
-      let b = require-split _ _ _ (lit< tt) (a .1) in
-      let s = require-split _ _ _ (lit< tt) (b .1) in
-      let f = require-split _ _ _ (lit< tt) (s .1) in
-      let d = require-split _ _ _ (lit< tt) (f .1) in
-      let o = require-split _ _ _ (lit< tt) (d .1) in
-      let w = require-split _ _ _ (lit< tt) (o .1) in
-      let x = require-split _ _ _ (lit< tt) (w .1) in
-      let h = require-split _ _ _ (lit< tt) (x .1) in
-      let r = require-split _ _ _ (lit< tt) (h .1) in
-      let ps : Sized (publicKeyLength (𝓢 .shape)) publicKey = record { size = eqb-true _ _ (b .0); bytes = pb } in
-      record {
-        key-sized = record { size = eqb-true _ _ (a .0); bytes = kb };
-        public-sized = ps;
-        salt-size = eqb-true _ _ (s .0);
-        root-size = eqb-true _ _ (d .0);
-        first-sized = record { size = eqb-true _ _ (f .0); bytes = fb };
-        in-range = ltb-true _ _ (x .0);
-        hides = ltb-true _ _ (h .0);
-        second = leb-true _ _ (r .0);
-        wide-R = wr;
-        good = key-split 𝓢 L ps kb Accepted (r .1) .0;
-      }
-
-  pub open-join : OpenInput 𝓢 key publicKey salt root firstBytes e R hidden → openingLength (𝓢 .shape) ≤ length output → workLength ≤ length work
-      → openAnswer 𝓢 key publicKey salt root firstBytes e R hidden output work ≡ Accepted
-  unfolding openAnswer
-  open-join i o w =
-      require-join _ _ _ (eq-eqb _ _ (i .key-sized .size))
-      (require-join _ _ _ (eq-eqb _ _ (i .public-sized .size))
-      (require-join _ _ _ (eq-eqb _ _ (i .salt-size))
-      (require-join _ _ _ (eq-eqb _ _ (i .first-sized .size))
-      (require-join _ _ _ (eq-eqb _ _ (i .root-size))
-      (require-join _ _ _ (le-leb _ _ o)
-      (require-join _ _ _ (le-leb _ _ w)
-      (require-join _ _ _ (lt-ltb _ _ (i .in-range))
-      (require-join _ _ _ (lt-ltb _ _ (i .hides))
-      (require-join _ _ _ (le-leb _ _ (i .second)) (key-join 𝓢 L (i .public-sized) (i .key-sized .bytes) Accepted (i .good) refl))))))))))
-
 drop-past : (p : List ℕ) (y : ℕ) (ys : List ℕ) (n : ℕ) → length p ≡ n → drop (suc n) (p ++ y ∷ ys) ≡ ys
 drop-past [] y ys zero h = refl
 drop-past [] y ys (suc n) h = absurd (omega arith)
 drop-past (a ∷ p) y ys zero h = absurd (omega arith)
 drop-past (a ∷ p) y ys (suc n) h = drop-past p y ys n (omega arith)
-
--- ---- what it writes is accepted
 
 module _ (𝓢 : Scheme) (L : Laws 𝓢) (key publicKey salt root firstBytes : List ℕ) (e R hidden : ℕ)
     (input : OpenInput 𝓢 key publicKey salt root firstBytes e R hidden) where

@@ -1,9 +1,9 @@
 -- The parameter sets have the laws that the theorems ask for. Assumes nothing.
 use mathlib.Core.List.{List}
-use Prim.Native.Nat.{ℕ, _≤_, _<_}
+use Prim.Native.Nat.{ℕ}
 use native.Mathlib.Omega.{arith}
 use lib.Dec.{lit<, lit≤}
-use lib.ListN.{length, take, drop, length-drop}
+use lib.ListN.{take, drop, length-drop}
 use Rattle.slices.specs.Bytes.{Sized, take-bytes, drop-bytes}
 use Rattle.field.specs.Wide32.{field32, embedding32}
 use Rattle.field.specs.Wide48.{field48, embedding48}

@@ -2,7 +2,7 @@
 use mathlib.Core.Path.{_≡_, sym, _∙_, ap, subst, subst₂}
 use mathlib.Core.Logic.{_≢_, _⊎_, inl, inr, ⊎-elim}
 use mathlib.Core.List.{List, List-discrete}
-use Prim.Native.Nat.{ℕ, zero, suc, _+_, _*_, _/_, _%_, _<_}
+use Prim.Native.Nat.{ℕ, zero, suc, _+_, _*_, _<_}
 use native.Mathlib.Nat.{mod-lt, mod-add-div, div-lt-iff-lt-mul, mul-comm, zero-mul}
 use native.Mathlib.Omega.{arith}
 use native.Mathlib.Decide.{ℕ-discrete}
@@ -12,15 +12,15 @@ use lib.ListN.{getD, length-take}
 use Rattle.slices.specs.Lists.{sumXor}
 use Rattle.slices.specs.Bytes.{Bytes, Sized, take-bytes}
 use Rattle.slices.specs.Sums.{sumXor-cong}
-use Rattle.slices.specs.Numbers.{number, number-lt}
+use Rattle.slices.specs.Numbers.{number-lt}
 use Rattle.slices.specs.Layout.{total, field, field-bytes, length-field-le, sized-field}
 use Rattle.field.specs.Byte.{mul8, field8}
 use Rattle.poly.specs.Field.{BinaryField}
-use Rattle.poly.specs.Index.{clash-or-merged, update, at-cases}
+use Rattle.poly.specs.Index.{clash-or-merged, at-cases}
 use Rattle.poly.specs.Lagrange.{eval-interpolate}
 use Rattle.poly.specs.Sum.{sum}
 use Rattle.poly.specs.Balance.{AllOne, OneChallenge, FewRoots, valuesS, valuesT, valuesP, checkPoly}
-use Rattle.poly.specs.Parties.{Execution, execution-check, totals, checkOf}
+use Rattle.poly.specs.Parties.{Execution, execution-check, totals}
 use Rattle.circuit.specs.Sound.{products-good}
 use Rattle.banquet.specs.declared.Shape.{Shape}
 use Rattle.banquet.specs.declared.Answer.the-variants.{Accepted}
@@ -40,51 +40,12 @@ use Rattle.banquet.specs.Execution.{
   openedB,
 }
 use Rattle.banquet.specs.Key.{ciphertextOf}
-use Rattle.banquet.specs.Opening.{
-  transcriptOf,
-  hiddenOf,
-  siblingsOf,
-  saltOf,
-  executionOf,
-  challengeOf,
-  tapeUnder,
-  cOf,
-  aOf,
-  bOf,
-  committedOf,
-  shownSeed,
-}
+use Rattle.banquet.specs.Opening.{transcriptOf, hiddenOf, saltOf, executionOf, challengeOf, tapeUnder, cOf, aOf, bOf, committedOf}
 use Rattle.banquet.specs.Calls.{verifyOpeningAnswer}
-use Rattle.banquet.specs.Extraction.{
-  givenKey,
-  givenInverses,
-  givenInputs,
-  givenInput,
-  givenS,
-  givenT,
-  givenInverse,
-  givenProduct,
-  GoodOrLucky,
-  seedsOf,
-  Collision,
-  ShowUnder,
-  OneSeedEach,
-}
+use Rattle.banquet.specs.Extraction.{givenKey, givenInverses, givenInputs, givenInput, givenS, givenT, givenInverse, givenProduct, GoodOrLucky, seedsOf, Collision, OneSeedEach}
 use Rattle.theorems.specs.Laws.{Laws}
 use Rattle.theorems.specs.Wide.{wide-field, wide-points, wide-number}
-use Rattle.theorems.specs.Shares.{
-  IsTape,
-  hashed-tape,
-  tape-bytes,
-  Fits,
-  whole,
-  sized-givenKey,
-  sized-givenInverses,
-  sum-inputs,
-  sum-outputs,
-  total-inputs,
-  total-inverses,
-}
+use Rattle.theorems.specs.Shares.{IsTape, hashed-tape, tape-bytes, Fits, sized-givenKey, sized-givenInverses, sum-inputs, sum-outputs, total-inputs, total-inverses}
 use Rattle.theorems.specs.Keys.{sized-front}
 use Rattle.theorems.specs.OpeningChecks.{PartyHolds, TranscriptHolds, OpeningHolds, opening-holds}
 
