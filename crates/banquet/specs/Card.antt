@@ -13,7 +13,7 @@ use Rattle.banquet.specs.declared.Answer.{Answer}
 use Rattle.banquet.specs.declared.Answer.the-variants.{TextForm}
 use Rattle.banquet.specs.Shape.{messageLimit, workLength, publicKeyLength, headSizes, frameSizes}
 use Rattle.banquet.specs.Scheme.{Scheme}
-use Rattle.banquet.specs.Answer.{require}
+use Rattle.banquet.specs.Answer.{require, verdictOf}
 use Rattle.banquet.specs.Calls.{verifyAnswer}
 
 -- ---- digits
@@ -72,7 +72,8 @@ module _ (𝓢 : Scheme) where
   unfoldable pub isLine : ℕ → List ℕ → Bool
   isLine n text = isEnded text && (allDigits (lineOf text) && hasLength n (length (lineOf text)))
 
-  -- Number 18: "place is the first bad line, 45 for bytes after the last", of a text that goes on with line n and should have that many lines left
+  -- Number 18: "place is the first bad line, 45 for bytes after the last". The text begins with line n, and `left` lines are due: where none is, the
+  -- text has to be empty.
   unfoldable pub checkLines : ℕ → ℕ → List ℕ → Answer → Answer
   checkLines zero n text rest = require (eqb (length text) 0) (TextForm n) rest
   checkLines (suc left) n text rest = require (isLine n text) (TextForm n) (checkLines left (suc n) (afterLine text) rest)
@@ -89,7 +90,7 @@ module _ (𝓢 : Scheme) where
 
 -- ---- what is printed
 
--- a number's decimal digits, for as many divisions as are allowed: `number` of them is enough
+-- the decimal digits of x, by at most n divisions; x divisions are always enough
 unfoldable pub decimalIn : ℕ → ℕ → List ℕ
 decimalIn zero x = (0x30 + x) ∷ []
 decimalIn (suc n) x = choose (ltb x 10) ((0x30 + x) ∷ []) (decimalIn n (x / 10) ++ ((0x30 + x % 10) ∷ []))
@@ -108,3 +109,7 @@ unfoldable pub printed : Verdict → List ℕ
 printed v =
     choose (eqb (v .number) 0) (acceptedWord ++ (0x0a ∷ []))
     (refusedWord ++ (0x20 ∷ (decimal (v .number) ++ (0x20 ∷ (decimal (v .place) ++ (0x0a ∷ []))))))
+
+-- the whole output of the card program: "Empty input prints the whole output `refused 18 1`."
+unfoldable pub cardOutput : Scheme → List ℕ → List ℕ
+cardOutput 𝓢 text = printed (verdictOf (cardAnswer 𝓢 text))

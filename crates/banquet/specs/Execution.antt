@@ -16,13 +16,13 @@ use Rattle.banquet.specs.declared.Shape.{Shape}
 use Rattle.banquet.specs.Shape.{sboxAt, tapeSizes}
 use Rattle.banquet.specs.Scheme.{Scheme, wideOps, lifted}
 
--- What is public before the first challenge. `front` is the public key without the ciphertext.
+-- What parties compute with of what is public before the first challenge. `front` is the public key without the ciphertext.
 pub record Committed : Type 0 where
   pub front : List ℕ
   pub keyOffset : List ℕ
   pub inverseOffsets : List ℕ
 
--- The first challenge, which is r by j; the product offsets by point; the second challenge, which is R.
+-- The first challenge, which is r by j; the product offsets by point, which come between the challenges; the second challenge, which is R.
 pub record Challenge : Type 0 where
   pub first : ℕ → ℕ
   pub productOffset : ℕ → ℕ
@@ -31,7 +31,7 @@ pub record Challenge : Type 0 where
 module _ (𝓢 : Scheme) where
   open Shape (𝓢 .shape) using (wide, m1, m2)
 
-  -- From the bytes of the first challenge, the bytes of the product offsets (of the points 20 to 40), and the second challenge.
+  -- From the bytes of the first challenge, the bytes of the product offsets (of the points k from 20 to 40), and the second challenge.
   abbrev pub challenge : List ℕ → List ℕ → ℕ → Challenge
   challenge firstBytes offsets R = record {
     first = λ j. numberAt wide j firstBytes;
@@ -44,7 +44,7 @@ module _ (𝓢 : Scheme) where
   through n v u = eval (wideOps 𝓢) (interpolate (wideOps 𝓢) (λ k. k) n v) u
 
   -- ---- the parts of a tape t: "key share 16, inverse shares 200, per j the extra points s and t (4 each), 21 product shares (4 each)", these of the
-  -- points 20 to 40
+  -- points k from 20 to 40
 
   unfoldable pub tapePart : ℕ → List ℕ → List ℕ
   tapePart = field (tapeSizes (𝓢 .shape))

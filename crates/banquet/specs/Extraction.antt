@@ -5,9 +5,11 @@ use mathlib.Core.List.{List}
 use Prim.Native.Nat.{ℕ, _<_}
 use lib.ListN.{getD}
 use Rattle.slices.specs.Lists.{sumXor, zipXor}
+use Rattle.slices.specs.Bytes.{Bytes}
 use Rattle.poly.specs.Sum.{sum}
 use Rattle.poly.specs.Balance.{valuesS, valuesT, valuesP, checkPoly, OneChallenge, FewRoots}
 use Rattle.banquet.specs.declared.Shape.{Shape}
+use Rattle.banquet.specs.declared.Answer.the-variants.{Accepted}
 use Rattle.banquet.specs.Shape.{sboxAt}
 use Rattle.banquet.specs.Scheme.{Scheme, GoodKey, wideOps, Wide, lifted}
 use Rattle.banquet.specs.Hash.{commitment}
@@ -24,6 +26,7 @@ use Rattle.banquet.specs.Opening.{
   shownSeed,
   committedOf,
 }
+use Rattle.banquet.specs.Calls.{verifyOpening}
 
 -- ---- what all parties' tapes give
 
@@ -75,29 +78,45 @@ module _ (𝓢 : Scheme) (x : Committed) (tapes : ℕ → List ℕ) where
 
 -- ---- two openings
 
--- the seeds under which an opening shows parties
-abbrev pub seedsOf : Scheme → List ℕ → ℕ → List ℕ
-seedsOf 𝓢 o i = shownSeed 𝓢 (transcriptOf 𝓢 o) (hiddenOf 𝓢 o) (siblingsOf 𝓢 o) i
-
-module _ (𝓢 : Scheme) (publicKey o o′ : List ℕ) where
+module _ (𝓢 : Scheme) where
   open Shape (𝓢 .shape) using (parties)
 
-  abbrev t : List ℕ
-  t = transcriptOf 𝓢 o
+  -- "an opening is accepted when its check under the lent public key says so", in whatever work slice
+  abbrev pub AcceptedOpening : List ℕ → List ℕ → Type 0
+  AcceptedOpening publicKey o = (work : List ℕ) × (verifyOpening 𝓢 publicKey o work .answer ≡ Accepted)
 
-  -- "the two show some party under two unequal seeds with one commitment"
-  abbrev pub Collision : Type 0
-  Collision =
-      (i : ℕ) × (i < parties) × (i ≢ hiddenOf 𝓢 o) × (i ≢ hiddenOf 𝓢 o′) × (seedsOf 𝓢 o i ≢ seedsOf 𝓢 o′ i)
-      × (commitment 𝓢 (saltOf 𝓢 t) (executionOf 𝓢 t) i (seedsOf 𝓢 o i) ≡ commitment 𝓢 (saltOf 𝓢 t) (executionOf 𝓢 t) i (seedsOf 𝓢 o′ i))
+  -- "Two agree when that key and all bytes before the hidden party are equal."
+  abbrev pub Agree : List ℕ → List ℕ → Type 0
+  Agree o o′ = transcriptOf 𝓢 o ≡ transcriptOf 𝓢 o′
 
-  -- "they show each of the sixteen parties under one seed only"
-  abbrev pub ShowUnder : (ℕ → List ℕ) → Type 0
-  ShowUnder seed = (i : ℕ) → i < parties → (i ≢ hiddenOf 𝓢 o → seed i ≡ seedsOf 𝓢 o i) × (i ≢ hiddenOf 𝓢 o′ → seed i ≡ seedsOf 𝓢 o′ i)
+  -- "An opening shows every party that it doesn't hide, under the seed that its sibling seeds expand to."
+  abbrev pub seedsOf : List ℕ → ℕ → List ℕ
+  seedsOf o i = shownSeed 𝓢 (transcriptOf 𝓢 o) (hiddenOf 𝓢 o) (siblingsOf 𝓢 o) i
 
-  -- "and these seeds and the key offset give one key. That key is then good, or .."; "One seed for each party gives, with salt and execution, all the
-  -- tapes."
-  abbrev pub OneSeedEach : Type 0
-  OneSeedEach =
-      (seed : ℕ → List ℕ) × ShowUnder seed
-      × GoodOrLucky 𝓢 (committedOf 𝓢 publicKey t) (λ i. tapeUnder 𝓢 t i (seed i)) (challengeOf 𝓢 t) (ciphertextOf 𝓢 publicKey)
+  module _ (publicKey o o′ : List ℕ) where
+    abbrev t : List ℕ
+    t = transcriptOf 𝓢 o
+
+    -- "the two show some party under two unequal seeds with one commitment"
+    abbrev pub TwoSeeds : Type 0
+    TwoSeeds =
+        (i : ℕ) × (i < parties) × (i ≢ hiddenOf 𝓢 o) × (i ≢ hiddenOf 𝓢 o′) × (seedsOf o i ≢ seedsOf o′ i)
+        × (commitment 𝓢 (saltOf 𝓢 t) (executionOf 𝓢 t) i (seedsOf o i) ≡ commitment 𝓢 (saltOf 𝓢 t) (executionOf 𝓢 t) i (seedsOf o′ i))
+
+    -- "they show each of the sixteen parties under one seed only"
+    abbrev pub OneSeed : (ℕ → List ℕ) → Type 0
+    OneSeed seed = (i : ℕ) → i < parties → (i ≢ hiddenOf 𝓢 o → seed i ≡ seedsOf o i) × (i ≢ hiddenOf 𝓢 o′ → seed i ≡ seedsOf o′ i)
+
+    -- "these seeds and the key offset give one key. That key is then good, or one of two things holds"; "One seed for each party gives, with salt and
+    -- execution, all the tapes."
+    abbrev pub OneKey : (ℕ → List ℕ) → Type 0
+    OneKey seed =
+        GoodOrLucky 𝓢 (committedOf 𝓢 publicKey t) (λ i. tapeUnder 𝓢 t i (seed i)) (challengeOf 𝓢 t) (ciphertextOf 𝓢 publicKey)
+
+  -- "Take any two accepted openings of one execution, whoever made them and whatever their bytes, that agree .. but hide different parties. Either the
+  -- two show some party under two unequal seeds with one commitment, or they show each of the sixteen parties under one seed only, and .."
+  abbrev pub Demand3 : Type 0
+  Demand3 =
+      (publicKey o o′ : List ℕ) → Bytes publicKey → Bytes o → AcceptedOpening publicKey o → AcceptedOpening publicKey o′ → Agree o o′
+      → hiddenOf 𝓢 o ≢ hiddenOf 𝓢 o′
+      → TwoSeeds publicKey o o′ ⊎ ((seed : ℕ → List ℕ) × OneSeed publicKey o o′ seed × OneKey publicKey o o′ seed)

@@ -23,7 +23,7 @@ use Rattle.banquet.specs.Shape.{transcriptSizes}
 use Rattle.banquet.specs.Scheme.{Scheme, wideOps, wideMul}
 use Rattle.banquet.specs.Answer.{require, each, all}
 use Rattle.banquet.specs.Hash.{commitment, tape}
-use Rattle.banquet.specs.Tree.{siblingSeeds, shownLeaf}
+use Rattle.banquet.specs.Tree.{siblingSeeds, shownLeaves, seedAt}
 use Rattle.banquet.specs.Key.{frontOf, ciphertextOf}
 use Rattle.banquet.specs.Execution.{Committed, Challenge, challenge, outputShare, openedC, openedA, openedB}
 use Rattle.banquet.specs.Signer.{seedOf, tapeOf, ownCommitted, productOffsets}
@@ -83,7 +83,7 @@ module _ (𝓢 : Scheme) where
 
     -- "An opening shows every party that it doesn't hide, under the seed that its sibling seeds expand to."
     abbrev pub shownSeed : ℕ → List ℕ → ℕ → List ℕ
-    shownSeed hidden seeds i = shownLeaf 𝓢 saltOf executionOf depth 0 seeds hidden i
+    shownSeed hidden seeds i = seedAt (shownLeaves 𝓢 saltOf executionOf depth 0 seeds hidden) i
 
   -- ---- the check
 

@@ -1,8 +1,10 @@
 -- Parameter sets and the sizes that follow from them. The numbers of a set: parties; the depth of their tree of seeds; executions; bytes of a wide
 -- element (the paper's lift factor); `low`, the modulus of the wide field without its highest power; `y`, the element that X lifts to; m1 and m2; and
--- `front`, the bytes of a public key before the ciphertext.
+-- `front`, how many bytes of a public key stand before the ciphertext.
+use mathlib.Core.Path.{_≡_}
 use mathlib.Core.List.{List, [], _∷_}
 use Prim.Native.Nat.{ℕ, suc, _+_, _*_, _/_, _%_}
+use native.Mathlib.Nat.{mod-add-div}
 use Rattle.slices.specs.Layout.{total}
 use Rattle.banquet.specs.declared.Shape.{Shape}
 
@@ -34,9 +36,12 @@ module _ (S : Shape) where
   abbrev pub sboxAt : ℕ → ℕ → ℕ
   sboxAt j k = j + m1 * k
 
-  -- the points 20 to 40, at which P has "tape shares with product offsets"
-  abbrev pub products : ℕ
-  products = suc m2
+  pub sboxAt-jk : (l : ℕ) → sboxAt (jOf l) (kOf l) ≡ l
+  sboxAt-jk l = mod-add-div l m1
+
+  -- how many points have product offsets: 20 to 40
+  abbrev pub productPoints : ℕ
+  productPoints = suc m2
 
   -- ---- sizes in bytes
 
@@ -54,7 +59,7 @@ module _ (S : Shape) where
 
   -- "a 380-byte tape: key share 16, inverse shares 200, per j the extra points s and t (4 each), 21 product shares (4 each)"
   abbrev pub tapeSizes : List ℕ
-  tapeSizes = 16 ∷ sboxes ∷ 2 * m1 * wide ∷ products * wide ∷ []
+  tapeSizes = 16 ∷ sboxes ∷ 2 * m1 * wide ∷ productPoints * wide ∷ []
 
   -- "A seal is 19,776 bytes: salt, h1, h3 (32 each), then 41 frames"
   abbrev pub headSizes : List ℕ
@@ -63,7 +68,7 @@ module _ (S : Shape) where
   -- "frames of 480: four sibling seeds from the top down (64), hidden commitment (32), key offset (16), inverse offsets (200), product offsets (84),
   -- c (4), a (40), b (40)"
   abbrev pub frameSizes : List ℕ
-  frameSizes = depth * 16 ∷ 32 ∷ 16 ∷ sboxes ∷ products * wide ∷ wide ∷ m1 * wide ∷ m1 * wide ∷ []
+  frameSizes = depth * 16 ∷ 32 ∷ 16 ∷ sboxes ∷ productPoints * wide ∷ wide ∷ m1 * wide ∷ m1 * wide ∷ []
 
   abbrev pub signatureLength : ℕ
   signatureLength = total headSizes + executions * total frameSizes
@@ -72,7 +77,7 @@ module _ (S : Shape) where
   -- shares of c 64, of a 640, of b 640 (by party)": this far the transcript, which is "all bytes before the hidden party"
   abbrev pub transcriptSizes : List ℕ
   transcriptSizes =
-      32 ∷ 1 ∷ parties * 32 ∷ parties * 16 ∷ 16 ∷ sboxes ∷ m1 * wide ∷ products * wide ∷ wide ∷ parties * wide ∷ parties * (m1 * wide)
+      32 ∷ 1 ∷ parties * 32 ∷ parties * 16 ∷ 16 ∷ sboxes ∷ m1 * wide ∷ productPoints * wide ∷ wide ∷ parties * wide ∷ parties * (m1 * wide)
       ∷ parties * (m1 * wide) ∷ []
 
   -- "hidden party 1, sibling seeds 64"

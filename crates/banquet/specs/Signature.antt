@@ -26,7 +26,7 @@ use Rattle.banquet.specs.Hash.{
   secondChallenge,
   hiddenParty,
 }
-use Rattle.banquet.specs.Tree.{siblingSeeds, shownLeaf}
+use Rattle.banquet.specs.Tree.{siblingSeeds, shownLeaves, seedAt}
 use Rattle.banquet.specs.Key.{frontOf, ciphertextOf}
 use Rattle.banquet.specs.Execution.{Committed, Challenge, challenge, outputShare, openedC, openedA, openedB}
 use Rattle.banquet.specs.Signer.{seedOf, tapeOf, ownCommitted, productOffsets}
@@ -37,8 +37,8 @@ module _ (𝓢 : Scheme) where
   -- ---- what h1 and h3 bind of an execution
 
   -- h1: "16 commitments, 16 output shares, key offset, 200 inverse offsets"
-  unfoldable pub commitBytes : (ℕ → List ℕ) → (ℕ → List ℕ) → List ℕ → List ℕ → List ℕ
-  commitBytes commitments outputs keyOffset inverseOffsets =
+  unfoldable pub h1Part : (ℕ → List ℕ) → (ℕ → List ℕ) → List ℕ → List ℕ → List ℕ
+  h1Part commitments outputs keyOffset inverseOffsets =
       rows commitments parties ++ rows outputs parties ++ keyOffset ++ inverseOffsets
 
   -- "c (4), a (40), b (40)"
@@ -46,8 +46,8 @@ module _ (𝓢 : Scheme) where
   openedBytes c a b = bytesOf wide c ++ numbers wide m1 a ++ numbers wide m1 b
 
   -- h3: "the sums c, a, b and each party's c, a, b"
-  unfoldable pub openBytes : ℕ → (ℕ → ℕ) → (ℕ → ℕ) → (ℕ → ℕ) → (ℕ → ℕ → ℕ) → (ℕ → ℕ → ℕ) → List ℕ
-  openBytes c a b shareC shareA shareB = openedBytes c a b ++ rows (λ i. openedBytes (shareC i) (shareA i) (shareB i)) parties
+  unfoldable pub h3Part : ℕ → (ℕ → ℕ) → (ℕ → ℕ) → (ℕ → ℕ) → (ℕ → ℕ → ℕ) → (ℕ → ℕ → ℕ) → List ℕ
+  h3Part c a b shareC shareA shareB = openedBytes c a b ++ rows (λ i. openedBytes (shareC i) (shareA i) (shareB i)) parties
 
   -- ---- how a signature is made
 
@@ -65,13 +65,13 @@ module _ (𝓢 : Scheme) where
     abbrev pub signerCommitted : ℕ → Committed
     signerCommitted e = ownCommitted 𝓢 (signerTape e) (frontOf 𝓢 publicKey) key
 
-    unfoldable pub signerFirst : ℕ → List ℕ
-    signerFirst e =
-        commitBytes (λ i. commitment 𝓢 salt e i (signerSeed e i)) (λ i. outputShare 𝓢 (signerCommitted e) i (signerTape e i))
+    unfoldable pub signerH1Part : ℕ → List ℕ
+    signerH1Part e =
+        h1Part (λ i. commitment 𝓢 salt e i (signerSeed e i)) (λ i. outputShare 𝓢 (signerCommitted e) i (signerTape e i))
         (signerCommitted e .keyOffset) (signerCommitted e .inverseOffsets)
 
     unfoldable pub signerH1 : List ℕ
-    signerH1 = firstHash 𝓢 publicKey message salt signerFirst
+    signerH1 = firstHash 𝓢 publicKey message salt signerH1Part
 
     unfoldable pub signerOffsets : ℕ → List ℕ
     signerOffsets e = productOffsets 𝓢 (signerTape e) (frontOf 𝓢 publicKey) key (firstChallenge 𝓢 signerH1 e)
@@ -101,11 +101,11 @@ module _ (𝓢 : Scheme) where
     abbrev pub signerB : ℕ → ℕ → ℕ
     signerB e j = sum (wideOps 𝓢) parties (λ i. shareB e i j)
 
-    unfoldable pub signerThird : ℕ → List ℕ
-    signerThird e = openBytes (signerC e) (signerA e) (signerB e) (shareC e) (shareA e) (shareB e)
+    unfoldable pub signerH3Part : ℕ → List ℕ
+    signerH3Part e = h3Part (signerC e) (signerA e) (signerB e) (shareC e) (shareA e) (shareB e)
 
     unfoldable pub signerH3 : List ℕ
-    signerH3 = thirdHash 𝓢 signerH2 signerThird
+    signerH3 = thirdHash 𝓢 signerH2 signerH3Part
 
     abbrev pub signerHidden : ℕ → ℕ
     signerHidden e = hiddenParty 𝓢 signerH3 e
@@ -158,7 +158,7 @@ module _ (𝓢 : Scheme) where
   unfoldable pub completed : ℕ → ℕ → (ℕ → ℕ) → ℕ → ℕ
   completed hidden whole f i = at i hidden (bitXor whole (sum (wideOps 𝓢) parties (λ k. at k hidden 0 (f k)))) (f i)
 
-  -- "the hidden output share from the ciphertext"
+  -- "the hidden output share from the ciphertext"; [] is the zero of `zipXor`
   unfoldable pub completedOutput : ℕ → List ℕ → (ℕ → List ℕ) → ℕ → List ℕ
   completedOutput hidden whole f i = at i hidden (zipXor whole (sumXor parties (λ k. at k hidden [] (f k)))) (f i)
 
@@ -175,14 +175,14 @@ module _ (𝓢 : Scheme) where
     }
 
     abbrev pub frameSeed : ℕ → List ℕ
-    frameSeed i = shownLeaf 𝓢 salt e depth 0 (framePart frame 0) frameHidden i
+    frameSeed i = seedAt (shownLeaves 𝓢 salt e depth 0 (framePart frame 0) frameHidden) i
 
     abbrev pub frameTape : ℕ → List ℕ
     frameTape i = tape 𝓢 salt e i (frameSeed i)
 
-    unfoldable pub frameFirst : List ℕ
-    frameFirst =
-        commitBytes (λ i. at i frameHidden (framePart frame 1) (commitment 𝓢 salt e i (frameSeed i)))
+    unfoldable pub frameH1Part : List ℕ
+    frameH1Part =
+        h1Part (λ i. at i frameHidden (framePart frame 1) (commitment 𝓢 salt e i (frameSeed i)))
         (completedOutput frameHidden (ciphertextOf 𝓢 publicKey) (λ i. outputShare 𝓢 frameCommitted i (frameTape i)))
         (framePart frame 2) (framePart frame 3)
 
@@ -190,9 +190,9 @@ module _ (𝓢 : Scheme) where
       abbrev pub frameChallenge : Challenge
       frameChallenge = challenge 𝓢 (firstChallenge 𝓢 h1 e) (framePart frame 4) (secondChallenge 𝓢 h2 e)
 
-      unfoldable pub frameThird : List ℕ
-      frameThird =
-          openBytes (frameC frame) (frameA frame) (frameB frame)
+      unfoldable pub frameH3Part : List ℕ
+      frameH3Part =
+          h3Part (frameC frame) (frameA frame) (frameB frame)
           (completed frameHidden (frameC frame) (λ i. openedC 𝓢 frameCommitted i (frameTape i) frameChallenge))
           (λ i j. completed frameHidden (frameA frame j) (λ k. openedA 𝓢 frameCommitted k (frameTape k) frameChallenge j) i)
           (λ i j. completed frameHidden (frameB frame j) (λ k. openedB 𝓢 frameCommitted k (frameTape k) frameChallenge j) i)
@@ -203,10 +203,10 @@ module _ (𝓢 : Scheme) where
     ownH2 = secondHash 𝓢 h1 (λ e. framePart (frames e) 4)
 
     abbrev pub recomputedH1 : List ℕ
-    recomputedH1 = firstHash 𝓢 publicKey message salt (λ e. frameFirst publicKey salt h3 e (frames e))
+    recomputedH1 = firstHash 𝓢 publicKey message salt (λ e. frameH1Part publicKey salt h3 e (frames e))
 
     abbrev pub recomputedH3 : List ℕ
-    recomputedH3 = thirdHash 𝓢 ownH2 (λ e. frameThird publicKey salt h3 e (frames e) h1 ownH2)
+    recomputedH3 = thirdHash 𝓢 ownH2 (λ e. frameH3Part publicKey salt h3 e (frames e) h1 ownH2)
 
     -- Numbers 15, 16 and 17.
     unfoldable pub checkSignature : Answer

@@ -8,16 +8,16 @@ use Rattle.slices.specs.Numbers.{numberAt, numbers}
 use Rattle.poly.specs.Sum.{sum}
 use Rattle.poly.specs.Balance.{valuesS, valuesT}
 use Rattle.banquet.specs.declared.Shape.{Shape}
-use Rattle.banquet.specs.Shape.{sboxAt, products}
+use Rattle.banquet.specs.Shape.{sboxAt, productPoints}
 use Rattle.banquet.specs.Scheme.{Scheme, wideOps, wideMul, lifted, trueInverses}
 use Rattle.banquet.specs.Hash.{tape}
-use Rattle.banquet.specs.Tree.{leaf}
+use Rattle.banquet.specs.Tree.{leaves, seedAt}
 use Rattle.banquet.specs.Execution.{Committed, through, tapeKey, tapeInverses, tapeS, tapeT, tapeProduct}
 
 -- The parties' seeds and tapes.
 module _ (𝓢 : Scheme) (salt root : List ℕ) (e : ℕ) where
   abbrev pub seedOf : ℕ → List ℕ
-  seedOf i = leaf 𝓢 salt e (𝓢 .shape .depth) 0 root i
+  seedOf i = seedAt (leaves 𝓢 salt e (𝓢 .shape .depth) 0 root) i
 
   abbrev pub tapeOf : ℕ → List ℕ
   tapeOf i = tape 𝓢 salt e i (seedOf i)
@@ -65,4 +65,4 @@ module _ (𝓢 : Scheme) (tapes : ℕ → List ℕ) (front key : List ℕ) where
 
     -- at the points 20 to 40
     unfoldable pub productOffsets : List ℕ
-    productOffsets = numbers wide (products (𝓢 .shape)) (λ n. productOffsetAt (m2 + n))
+    productOffsets = numbers wide (productPoints (𝓢 .shape)) (λ n. productOffsetAt (m2 + n))

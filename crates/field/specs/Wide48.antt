@@ -55,7 +55,7 @@ lift48 = lift 8 mul48 y48
 pub binary48 : BinaryField (ops 48 low48) (Element 48)
 binary48 = binary-field 48 low48 field48 (lit< tt)
 
--- "of the eight wide roots y of y^8 + y^4 + y^3 + y + 1 take the smallest as a number."
+-- "of the eight wide roots y of y^8 + y^4 + y^3 + y + 1 take the smallest as a number"
 pub least48 : IsLeastRoot 48 low48 modulus8 y48
 unfolding xtime times combine orbit eval
 least48 =

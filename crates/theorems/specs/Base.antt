@@ -92,4 +92,4 @@ pub demand-3 : (publicKey o o′ work work′ : List ℕ) → Bytes publicKey �
     → TwoSeeds o o′
     ⊎ ((seed : ℕ → List ℕ) × OneSeed o o′ seed
     × (GoodKey (take 16 publicKey) (drop 16 publicKey) (key publicKey o seed) ⊎ (OneOfTen publicKey o seed ⊎ OneOfForty publicKey o seed)))
-demand-3 = soundness.demand-3 baseScheme base-laws
+demand-3 publicKey o o′ work work′ kb ob acc acc′ = soundness.demand-3 baseScheme base-laws publicKey o o′ kb ob (work, acc) (work′, acc′)

@@ -28,7 +28,7 @@ use Rattle.banquet.specs.declared.Answer.the-variants.{Accepted}
 use Rattle.banquet.specs.Shape.{workLength, transcriptSizes, openingLength}
 use Rattle.banquet.specs.Scheme.{Scheme, wideOps, wideMul, Wide}
 use Rattle.banquet.specs.Hash.{commitment, tape}
-use Rattle.banquet.specs.Tree.{siblingSeeds, shownLeaf}
+use Rattle.banquet.specs.Tree.{siblingSeeds, shownLeaves, seedAt}
 use Rattle.banquet.specs.Key.{frontOf, ciphertextOf}
 use Rattle.banquet.specs.Execution.{Committed, Challenge, challenge, outputShare, openedC, openedA, openedB}
 use Rattle.banquet.specs.Signer.{seedOf, tapeOf, ownCommitted, productOffsets}
@@ -223,7 +223,7 @@ module _ (𝓢 : Scheme) (L : Laws 𝓢) (key publicKey salt root firstBytes : L
   shown i l ne =
       let le = L .enough-leaves in
       let h = input .hides in
-      ap₂ (λ (s : List ℕ) (n : ℕ). shownLeaf 𝓢 s n depth 0 q hidden i) (is 0) is-e
+      ap₂ (λ (s : List ℕ) (n : ℕ). seedAt (shownLeaves 𝓢 s n depth 0 q hidden) i) (is 0) is-e
       ∙ shown-siblings 𝓢 L salt e depth 0 root hidden i (omega arith) (omega arith) ne
 
   holds : TranscriptHolds 𝓢 publicKey t hidden (shownSeed 𝓢 t hidden q)

@@ -32,7 +32,7 @@ use Rattle.banquet.specs.Hash.{
   secondChallenge,
   hiddenParty,
 }
-use Rattle.banquet.specs.Signature.{commitBytes, openedBytes, openBytes, completed, completedOutput}
+use Rattle.banquet.specs.Signature.{h1Part, openedBytes, h3Part, completed, completedOutput}
 use Rattle.theorems.specs.Laws.{Laws}
 use Rattle.theorems.specs.Wide.{wide-field, byte-sum, wide-number}
 
@@ -101,21 +101,21 @@ module _ (𝓢 : Scheme) (L : Laws 𝓢) where
 
   -- ---- what the hashes bind, by execution
 
-  pub commitBytes-cong : {c c′ o o′ : ℕ → List ℕ} {a a′ b b′ : List ℕ} → ((i : ℕ) → i < parties → c i ≡ c′ i) → ((i : ℕ) → i < parties → o i ≡ o′ i)
-      → a ≡ a′ → b ≡ b′ → commitBytes 𝓢 c o a b ≡ commitBytes 𝓢 c′ o′ a′ b′
-  unfolding commitBytes
-  commitBytes-cong p q r s = λ i. rows-cong parties p i ++ rows-cong parties q i ++ r i ++ s i
+  pub h1Part-cong : {c c′ o o′ : ℕ → List ℕ} {a a′ b b′ : List ℕ} → ((i : ℕ) → i < parties → c i ≡ c′ i) → ((i : ℕ) → i < parties → o i ≡ o′ i)
+      → a ≡ a′ → b ≡ b′ → h1Part 𝓢 c o a b ≡ h1Part 𝓢 c′ o′ a′ b′
+  unfolding h1Part
+  h1Part-cong p q r s = λ i. rows-cong parties p i ++ rows-cong parties q i ++ r i ++ s i
 
   openedBytes-cong : {c c′ : ℕ} {a a′ b b′ : ℕ → ℕ} → c ≡ c′ → ((j : ℕ) → j < m1 → a j ≡ a′ j) → ((j : ℕ) → j < m1 → b j ≡ b′ j)
       → openedBytes 𝓢 c a b ≡ openedBytes 𝓢 c′ a′ b′
   openedBytes-cong p q r =
       λ i. bytesOf wide (p i) ++ rows-cong m1 (λ j l. ap (bytesOf wide) (q j l)) i ++ rows-cong m1 (λ j l. ap (bytesOf wide) (r j l)) i
 
-  pub openBytes-cong : {c c′ : ℕ} {a a′ b b′ : ℕ → ℕ} {u u′ : ℕ → ℕ} {v v′ w w′ : ℕ → ℕ → ℕ} → c ≡ c′ → ((j : ℕ) → j < m1 → a j ≡ a′ j)
+  pub h3Part-cong : {c c′ : ℕ} {a a′ b b′ : ℕ → ℕ} {u u′ : ℕ → ℕ} {v v′ w w′ : ℕ → ℕ → ℕ} → c ≡ c′ → ((j : ℕ) → j < m1 → a j ≡ a′ j)
       → ((j : ℕ) → j < m1 → b j ≡ b′ j) → ((i : ℕ) → i < parties → u i ≡ u′ i) → ((i j : ℕ) → i < parties → j < m1 → v i j ≡ v′ i j)
-      → ((i j : ℕ) → i < parties → j < m1 → w i j ≡ w′ i j) → openBytes 𝓢 c a b u v w ≡ openBytes 𝓢 c′ a′ b′ u′ v′ w′
-  unfolding openBytes
-  openBytes-cong p q r s t y =
+      → ((i j : ℕ) → i < parties → j < m1 → w i j ≡ w′ i j) → h3Part 𝓢 c a b u v w ≡ h3Part 𝓢 c′ a′ b′ u′ v′ w′
+  unfolding h3Part
+  h3Part-cong p q r s t y =
       ap₂ _++_ (openedBytes-cong p q r) (rows-cong parties (λ i l. openedBytes-cong (s i l) (λ j m. t i j l m) (λ j m. y i j l m)))
 
   pub firstHash-cong : (publicKey message salt : List ℕ) {f g : ℕ → List ℕ} → ((e : ℕ) → e < executions → f e ≡ g e)

@@ -16,7 +16,7 @@ use Rattle.banquet.specs.Shape.{workLength, headSizes, frameSizes, signatureLen
 use Rattle.banquet.specs.Scheme.{Scheme, wideOps, wideMul}
 use Rattle.banquet.specs.Hash.{firstHash, thirdHash}
 use Rattle.banquet.specs.Key.{frontOf, ciphertextOf}
-use Rattle.banquet.specs.Signature.{signerH1, signerH2, signerThird, signerH3, signerFrame, signature, frameOf, headPart, framePart, frameC, frameA, frameB, frameFirst, frameThird, ownH2, recomputedH1, recomputedH3}
+use Rattle.banquet.specs.Signature.{signerH1, signerH2, signerH3Part, signerH3, signerFrame, signature, frameOf, headPart, framePart, frameC, frameA, frameB, frameH1Part, frameH3Part, ownH2, recomputedH1, recomputedH3}
 use Rattle.banquet.specs.Calls.{verifyAnswer}
 use Rattle.theorems.specs.Laws.{Laws}
 use Rattle.theorems.specs.SignatureFrame as one
@@ -59,13 +59,13 @@ module _ (𝓢 : Scheme) (L : Laws 𝓢) (key publicKey message salt seeds : Lis
 
     h1-is : recomputedH1 𝓢 publicKey message salt h1 h3 frames ≡ h1
     unfolding signerH1
-    h1-is = firstHash-cong 𝓢 L publicKey message salt (λ e l. ap (frameFirst 𝓢 publicKey salt h3 e) (are e l) ∙ one.first-is 𝓢 L key publicKey message salt seeds input e)
+    h1-is = firstHash-cong 𝓢 L publicKey message salt (λ e l. ap (frameH1Part 𝓢 publicKey salt h3 e) (are e l) ∙ one.first-is 𝓢 L key publicKey message salt seeds input e)
 
     h3-is : recomputedH3 𝓢 publicKey message salt h1 h3 frames ≡ h3
     unfolding signerH3
     h3-is =
-        thirdHash-cong 𝓢 L h2′ (λ e l. ap₂ (λ (h r : List ℕ). frameThird 𝓢 publicKey salt h3 e r h1 h) h2-is (are e l) ∙ one.third-is 𝓢 L key publicKey message salt seeds input e)
-        ∙ ap (λ (h : List ℕ). thirdHash 𝓢 h (signerThird 𝓢 key publicKey message salt seeds)) h2-is
+        thirdHash-cong 𝓢 L h2′ (λ e l. ap₂ (λ (h r : List ℕ). frameH3Part 𝓢 publicKey salt h3 e r h1 h) h2-is (are e l) ∙ one.third-is 𝓢 L key publicKey message salt seeds input e)
+        ∙ ap (λ (h : List ℕ). thirdHash 𝓢 h (signerH3Part 𝓢 key publicKey message salt seeds)) h2-is
 
     checks : FramesHold 𝓢 publicKey message salt h1 h3 frames
     checks = record {

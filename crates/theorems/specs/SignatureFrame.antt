@@ -25,11 +25,11 @@ use Rattle.banquet.specs.declared.Shape.{Shape}
 use Rattle.banquet.specs.Shape.{frameSizes}
 use Rattle.banquet.specs.Scheme.{Scheme, wideOps, wideMul}
 use Rattle.banquet.specs.Hash.{commitment, tape, firstChallenge, secondChallenge}
-use Rattle.banquet.specs.Tree.{siblingSeeds, shownLeaf}
+use Rattle.banquet.specs.Tree.{siblingSeeds, shownLeaves, seedAt}
 use Rattle.banquet.specs.Key.{frontOf, ciphertextOf}
 use Rattle.banquet.specs.Execution.{Committed, Challenge, challenge, outputShare, openedC, openedA, openedB}
 use Rattle.banquet.specs.Signer.{productOffsets}
-use Rattle.banquet.specs.Signature.{signerCommitted, signerSeed, signerTape, signerFirst, signerH1, signerOffsets, signerH2, signerChallenge, signerC, signerA, signerB, signerThird, signerH3, signerHidden, signerFrame, completed, completedOutput, framePart, frameC, frameA, frameB, frameCommitted, frameChallenge, frameSeed, frameTape, frameFirst, frameThird}
+use Rattle.banquet.specs.Signature.{signerCommitted, signerSeed, signerTape, signerH1Part, signerH1, signerOffsets, signerH2, signerChallenge, signerC, signerA, signerB, signerH3Part, signerH3, signerHidden, signerFrame, completed, completedOutput, framePart, frameC, frameA, frameB, frameCommitted, frameChallenge, frameSeed, frameTape, frameH1Part, frameH3Part}
 use Rattle.theorems.specs.Laws.{Laws}
 use Rattle.theorems.specs.Inputs.{SignInput}
 use Rattle.theorems.specs.Keys.{sized-front}
@@ -38,7 +38,7 @@ use Rattle.theorems.specs.Shares.{IsTape, hashed-tape, Fits, sized-outpu
 use Rattle.theorems.specs.Seeds.{length-siblingSeeds, shown-siblings}
 use Rattle.theorems.specs.Opened.{WideChallenge, wide-C, wide-A, wide-B}
 use Rattle.theorems.specs.Honest.{honest-fits, honest-outputs, honest-product, honest-wide}
-use Rattle.theorems.specs.Recomputed.{completed-right, completedOutput-right, commitBytes-cong, openBytes-cong, firstChallenge-bytes, wide-secondChallenge, hidden-lt}
+use Rattle.theorems.specs.Recomputed.{completed-right, completedOutput-right, h1Part-cong, h3Part-cong, firstChallenge-bytes, wide-secondChallenge, hidden-lt}
 
 module _ (𝓢 : Scheme) (L : Laws 𝓢) (key publicKey message salt seeds : List ℕ) (input : SignInput 𝓢 key publicKey message salt seeds) where
   open Shape (𝓢 .shape) using (parties, executions, depth, wide, m1, m2, front)
@@ -162,15 +162,15 @@ module _ (𝓢 : Scheme) (L : Laws 𝓢) (key publicKey message salt seeds : Lis
     shown i l ne =
         let le = L .enough-leaves in
         let h = hidden-lt 𝓢 L h3 e in
-        ap (λ q. shownLeaf 𝓢 salt e depth 0 q hidden i) (is 0)
+        ap (λ (q : List ℕ). seedAt (shownLeaves 𝓢 salt e depth 0 q hidden) i) (is 0)
         ∙ shown-siblings 𝓢 L salt e depth 0 _ hidden i (omega arith) (omega arith) ne
 
     shown-tape : (i : ℕ) → i < parties → i ≢ hidden → frameTape 𝓢 publicKey salt h3 e (frame e) i ≡ tapes i
     shown-tape i l ne = ap (tape 𝓢 salt e i) (shown i l ne)
 
-    pub first-is : frameFirst 𝓢 publicKey salt h3 e (frame e) ≡ signerFirst 𝓢 key publicKey message salt seeds e
-    unfolding frameFirst signerFirst
-    first-is = commitBytes-cong 𝓢 L commitments outputs (is 2) (is 3)
+    pub first-is : frameH1Part 𝓢 publicKey salt h3 e (frame e) ≡ signerH1Part 𝓢 key publicKey message salt seeds e
+    unfolding frameH1Part signerH1Part
+    first-is = h1Part-cong 𝓢 L commitments outputs (is 2) (is 3)
       where
         commitments : (i : ℕ) → i < parties
             → at i hidden (framePart 𝓢 (frame e) 1) (commitment 𝓢 salt e i (frameSeed 𝓢 publicKey salt h3 e (frame e) i)) ≡ commitment 𝓢 salt e i (seed i)
@@ -194,8 +194,8 @@ module _ (𝓢 : Scheme) (L : Laws 𝓢) (key publicKey message salt seeds : Lis
     completes g whole w =
         completed-right 𝓢 L (λ k. g x k (tapes k) d) _ hidden whole (hidden-lt 𝓢 L h3 e) (λ k m n. λ i. g (is-x i) k (shown-tape k m n i) (is-d i)) w
 
-    pub third-is : frameThird 𝓢 publicKey salt h3 e (frame e) h1 h2 ≡ signerThird 𝓢 key publicKey message salt seeds e
-    unfolding frameThird signerThird
+    pub third-is : frameH3Part 𝓢 publicKey salt h3 e (frame e) h1 h2 ≡ signerH3Part 𝓢 key publicKey message salt seeds e
+    unfolding frameH3Part signerH3Part
     third-is =
-        openBytes-cong 𝓢 L is-C is-A is-B (completes (openedC 𝓢) _ is-C) (λ i j l q. completes (λ c k s v. openedA 𝓢 c k s v j) _ (is-A j q) i l)
+        h3Part-cong 𝓢 L is-C is-A is-B (completes (openedC 𝓢) _ is-C) (λ i j l q. completes (λ c k s v. openedA 𝓢 c k s v j) _ (is-A j q) i l)
         (λ i j l q. completes (λ c k s v. openedB 𝓢 c k s v j) _ (is-B j q) i l)

@@ -3,7 +3,7 @@ use mathlib.Core.Path.{_≡_, sym, _∙_, ap, subst, subst₂}
 use mathlib.Core.Logic.{_≢_, _⊎_, inl, inr, ⊎-elim}
 use mathlib.Core.List.{List, List-discrete}
 use Prim.Native.Nat.{ℕ, zero, suc, _+_, _*_, _<_}
-use native.Mathlib.Nat.{mod-lt, mod-add-div, div-lt-iff-lt-mul, mul-comm, zero-mul}
+use native.Mathlib.Nat.{mod-lt, div-lt-iff-lt-mul, mul-comm, zero-mul}
 use native.Mathlib.Omega.{arith}
 use native.Mathlib.Decide.{ℕ-discrete}
 use lib.Dec.{lit<}
@@ -24,7 +24,7 @@ use Rattle.poly.specs.Parties.{Execution, execution-check, totals}
 use Rattle.circuit.specs.Sound.{products-good}
 use Rattle.banquet.specs.declared.Shape.{Shape}
 use Rattle.banquet.specs.declared.Answer.the-variants.{Accepted}
-use Rattle.banquet.specs.Shape.{sboxes, jOf, kOf, sboxAt, transcriptSizes, publicKeyLength}
+use Rattle.banquet.specs.Shape.{sboxes, jOf, kOf, sboxAt, sboxAt-jk, transcriptSizes, publicKeyLength}
 use Rattle.banquet.specs.Scheme.{Scheme, GoodKey, wideOps, wideMul, Wide, lifted}
 use Rattle.banquet.specs.Execution.{
   Committed,
@@ -42,7 +42,7 @@ use Rattle.banquet.specs.Execution.{
 use Rattle.banquet.specs.Key.{ciphertextOf}
 use Rattle.banquet.specs.Opening.{transcriptOf, hiddenOf, saltOf, executionOf, challengeOf, tapeUnder, cOf, aOf, bOf, committedOf}
 use Rattle.banquet.specs.Calls.{verifyOpeningAnswer}
-use Rattle.banquet.specs.Extraction.{givenKey, givenInverses, givenInputs, givenInput, givenS, givenT, givenInverse, givenProduct, GoodOrLucky, seedsOf, Collision, OneSeedEach}
+use Rattle.banquet.specs.Extraction.{givenKey, givenInverses, givenInputs, givenInput, givenS, givenT, givenInverse, givenProduct, GoodOrLucky, seedsOf, Demand3}
 use Rattle.theorems.specs.Laws.{Laws}
 use Rattle.theorems.specs.Wide.{wide-field, wide-points, wide-number}
 use Rattle.theorems.specs.Shares.{IsTape, hashed-tape, tape-bytes, Fits, sized-givenKey, sized-givenInverses, sum-inputs, sum-outputs, total-inputs, total-inverses}
@@ -80,7 +80,7 @@ module _ (𝓢 : Scheme) (L : Laws 𝓢) where
     k-lt = div-lt-iff-lt-mul positive .1 (subst (λ (n : ℕ). l < n) (mul-comm m1 m2) h)
 
   by-sbox : (P : ℕ → Type 0) → ((j k : ℕ) → j < m1 → k < m2 → P (sboxAt (𝓢 .shape) j k)) → (l : ℕ) → l < sboxes (𝓢 .shape) → P l
-  by-sbox P f l h = subst P (mod-add-div l m1) (f (jOf (𝓢 .shape) l) (kOf (𝓢 .shape) l) (j-lt l h) (k-lt l h))
+  by-sbox P f l h = subst P (sboxAt-jk (𝓢 .shape) l) (f (jOf (𝓢 .shape) l) (kOf (𝓢 .shape) l) (j-lt l h) (k-lt l h))
 
   module _ (x : Committed) (fits : Fits 𝓢 L x) (tapes : ℕ → List ℕ) (ts : (i : ℕ) → i < parties → IsTape 𝓢 L (tapes i)) (ciphertext : List ℕ)
       (outputs : sumXor parties (λ i. outputShare 𝓢 x i (tapes i)) ≡ ciphertext)
@@ -184,17 +184,14 @@ module _ (𝓢 : Scheme) (L : Laws 𝓢) where
 
   -- ---- two openings
 
-  -- Any two accepted openings under one public key, whoever made them and whatever their bytes, that agree before the hidden party and hide different
-  -- parties.
-  pub demand-3 : (publicKey o o′ work work′ : List ℕ) → Bytes publicKey → Bytes o
-      → verifyOpeningAnswer 𝓢 publicKey o work ≡ Accepted → verifyOpeningAnswer 𝓢 publicKey o′ work′ ≡ Accepted
-      → transcriptOf 𝓢 o ≡ transcriptOf 𝓢 o′ → hiddenOf 𝓢 o ≢ hiddenOf 𝓢 o′
-      → Collision 𝓢 publicKey o o′ ⊎ OneSeedEach 𝓢 publicKey o o′
-  demand-3 publicKey o o′ work work′ kb ob acc acc′ agree ne =
+  pub demand-3 : Demand3 𝓢
+  demand-3 publicKey o o′ kb ob (work, acc) (work′, acc′) agree ne =
       ⊎-elim (λ (i, l, p, q, u, r, s). inl (i, l, p, q, u, r .commits ∙ sym (s .commits)))
       (λ (seed, holds, r, s). inr (seed, (λ i l. (r i l, s i l)), good-or-lucky publicKey t key-sized sized seed holds (a .transcript-holds)))
       (clash-or-merged (List-discrete ℕ-discrete) (PartyHolds 𝓢 publicKey t) parties (hiddenOf 𝓢 o) (hiddenOf 𝓢 o′) ne (seedsOf 𝓢 o) (seedsOf 𝓢 o′)
-      (a .transcript-holds .party) (subst (λ (u : List ℕ). (i : ℕ) → i < parties → i ≢ hiddenOf 𝓢 o′ → PartyHolds 𝓢 publicKey u i (seedsOf 𝓢 o′ i)) (sym agree) (b .transcript-holds .party)))
+      (a .transcript-holds .party)
+      (subst (λ (u : List ℕ). (i : ℕ) → i < parties → i ≢ hiddenOf 𝓢 o′ → PartyHolds 𝓢 publicKey u i (seedsOf 𝓢 o′ i)) (sym agree)
+      (b .transcript-holds .party)))
     where
       t : List ℕ
       t = transcriptOf 𝓢 o
