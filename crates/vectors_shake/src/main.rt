@@ -1,5 +1,5 @@
 // Runs SHAKE128 on messages of several lengths, absorbed and squeezed in pieces. A line has the message's length, that of the pieces, that of
-// the output, and the output in hex. The file stdout is written by vectors/shake.py.
+// the output, and the output in hex. At the end stands a published example. The file stdout is written by vectors/shake.py.
 use libc::STDOUT_FILENO;
 ghost use Prim.Native.Nat.{_≤_, _<_};
 ghost use lib.ListN.{length};
@@ -68,6 +68,15 @@ fn show(len: usize, piece: usize, n: usize)
     io::write_all(STDOUT_FILENO, b"\n");
 }
 
+// NIST's example of 1,600 bits: 200 bytes of a3, and 512 bytes of output.
+fn show_example() {
+    let input = [0xa3u8; 200];
+    let mut out = [0u8; 512];
+    sponge::digest(&input, &mut out);
+    write_hex(&out);
+    io::write_all(STDOUT_FILENO, b"\n");
+}
+
 fn main() {
     show(0, 1, 1);
     show(0, 1, 32);
@@ -83,4 +92,5 @@ fn main() {
     show(1000, 7, 380);
     show(100000, 1000, 32);
     show(100000, 9973, 336);
+    show_example();
 }
