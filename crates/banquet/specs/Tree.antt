@@ -1,6 +1,7 @@
 -- The tree of seeds: "Root is node 0, party i is node 15+i", which is leaf i below the root.
-use mathlib.Core.Path.{_≡_, refl}
-use mathlib.Core.List.{List, [], _∷_, _++_, map}
+use mathlib.Core.Path.{_≡_, refl, sym, ap₂, _∙_}
+use mathlib.Core.Bool.{Bool, true, false}
+use mathlib.Core.List.{List, [], _∷_, _++_, map, map-append}
 use Prim.Native.Nat.{ℕ, zero, suc, _+_, _-_, _*_, _^_}
 use lib.Dec.{ltb}
 use lib.ListN.{getD, take, drop, replicate}
@@ -54,7 +55,36 @@ module _ (𝓢 : Scheme) (salt : List ℕ) (e : ℕ) where
       choose (ltb h (2 ^ d)) (shownLeaves d (2 * v + 1) (drop 16 seeds) h ++ leaves d (2 * v + 2) (take 16 seeds))
       (leaves d (2 * v + 1) (take 16 seeds) ++ shownLeaves d (2 * v + 2) (drop 16 seeds) (h - 2 ^ d))
 
-  -- "party i is node 15+i", shown or not
+  -- ---- laws: the leaves' numbers, whatever the seeds are
+
+  leaves-numbers : (d v : ℕ) (seed seed′ : List ℕ) → nodeNumbers (leaves d v seed) ≡ nodeNumbers (leaves d v seed′)
+  unfolding leaves
+  leaves-numbers zero v seed seed′ = refl
+  leaves-numbers (suc d) v seed seed′ =
+      map-append _ (leaves d (2 * v + 1) (left v seed)) _
+      ∙ ap₂ _++_ (leaves-numbers d (2 * v + 1) (left v seed) (left v seed′)) (leaves-numbers d (2 * v + 2) (right v seed) (right v seed′))
+      ∙ sym (map-append _ (leaves d (2 * v + 1) (left v seed′)) _)
+
+  -- those shown are the same
+  pub shown-numbers : (d v : ℕ) (seeds : List ℕ) (h : ℕ) (seed : List ℕ) → nodeNumbers (shownLeaves d v seeds h) ≡ nodeNumbers (leaves d v seed)
+  unfolding shownLeaves leaves
+  shown-numbers zero v seeds h seed = refl
+  shown-numbers (suc d) v seeds h seed = go (ltb h (2 ^ d)) (shown-numbers d)
+    where
+      go : (t : Bool) → ((v : ℕ) (seeds : List ℕ) (h : ℕ) (seed : List ℕ) → nodeNumbers (shownLeaves d v seeds h) ≡ nodeNumbers (leaves d v seed))
+          → nodeNumbers (choose t (shownLeaves d (2 * v + 1) (drop 16 seeds) h ++ leaves d (2 * v + 2) (take 16 seeds))
+          (leaves d (2 * v + 1) (take 16 seeds) ++ shownLeaves d (2 * v + 2) (drop 16 seeds) (h - 2 ^ d)))
+          ≡ nodeNumbers (leaves d (2 * v + 1) (left v seed) ++ leaves d (2 * v + 2) (right v seed))
+      go true ih =
+          map-append _ (shownLeaves d (2 * v + 1) (drop 16 seeds) h) _
+          ∙ ap₂ _++_ (ih (2 * v + 1) (drop 16 seeds) h (left v seed)) (leaves-numbers d (2 * v + 2) (take 16 seeds) (right v seed))
+          ∙ sym (map-append _ (leaves d (2 * v + 1) (left v seed)) _)
+      go false ih =
+          map-append _ (leaves d (2 * v + 1) (take 16 seeds)) _
+          ∙ ap₂ _++_ (leaves-numbers d (2 * v + 1) (take 16 seeds) (left v seed)) (ih (2 * v + 2) (drop 16 seeds) (h - 2 ^ d) (right v seed))
+          ∙ sym (map-append _ (leaves d (2 * v + 1) (left v seed)) _)
+
+  -- "party i is node 15+i"
   pub party-nodes : (root : List ℕ) → nodeNumbers (leaves 4 0 root) ≡ tab (λ i. 15 + i) 16
   unfolding leaves
   party-nodes root = refl

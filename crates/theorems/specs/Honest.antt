@@ -111,11 +111,11 @@ module _ (𝓢 : Scheme) (L : Laws 𝓢) (f key ct : List ℕ) (tapes : ℕ → 
 
   -- ---- what the shares add up to
 
-  given-key : givenKey 𝓢 x tapes ≡ key
+  pub given-key : givenKey 𝓢 x tapes ≡ key
   unfolding givenKey
   given-key = zip-undo sk keys
 
-  given-inverses : givenInverses 𝓢 x tapes ≡ W
+  pub given-inverses : givenInverses 𝓢 x tapes ≡ W
   unfolding givenInverses
   given-inverses = zip-undo sized-W inverses
 
@@ -131,7 +131,7 @@ module _ (𝓢 : Scheme) (L : Laws 𝓢) (f key ct : List ℕ) (tapes : ℕ → 
       sum-outputs 𝓢 L x honest-fits tapes ts
       ∙ ap₂ (λ (k y : List ℕ). 𝓢 .circuit .outputShare f (share 1 k y)) given-key given-inverses ∙ output-true ∙ g .encrypts
 
-  given-inputs : givenInputs 𝓢 x tapes ≡ U
+  pub given-inputs : givenInputs 𝓢 x tapes ≡ U
   given-inputs =
       sum-inputs 𝓢 L x honest-fits tapes ts
       ∙ ap₂ (λ (k y : List ℕ). 𝓢 .circuit .inputShares f (share 1 k y)) given-key given-inverses ∙ inputs-true
@@ -204,14 +204,14 @@ module _ (𝓢 : Scheme) (L : Laws 𝓢) (f key ct : List ℕ) (tapes : ℕ → 
         same : m2 + (k - m2) ≡ k
         same = omega arith
 
-    sum-products : (k : ℕ) → m2 ≤ k → k < suc (2 * m2) → sum (wideOps 𝓢) parties (λ i. productAt 𝓢 x i (tapes i) d k) ≡ P k
+    pub sum-products : (k : ℕ) → m2 ≤ k → k < suc (2 * m2) → sum (wideOps 𝓢) parties (λ i. productAt 𝓢 x i (tapes i) d k) ≡ P k
     unfolding productAt
     sum-products k h l =
         let q : ℕ = sum (wideOps 𝓢) parties (λ i. tapeProduct 𝓢 (tapes i) k) in
         sum-product-offset 𝓢 L (λ i. tapeProduct 𝓢 (tapes i) k) (d .productOffset k) ∙ ap (bitXor q) (offset-at k h l ∙ xor-comm (P k) q)
         ∙ xor-cancel q (P k)
 
-    sum-c : sum (wideOps 𝓢) parties (λ i. openedC 𝓢 x i (tapes i) d)
+    pub sum-c : sum (wideOps 𝓢) parties (λ i. openedC 𝓢 x i (tapes i) d)
         ≡ lagrange (wideOps 𝓢) (λ k. k) (suc (2 * m2)) (valuesP (wideOps 𝓢) m1 m2 (sum (wideOps 𝓢) m1 r) P) R
     unfolding openedC
     sum-c = sum-through 𝓢 L (suc (2 * m2)) _ _ R (λ k l. go k l (decLt k m2))
@@ -223,13 +223,13 @@ module _ (𝓢 : Scheme) (L : Laws 𝓢) (f key ct : List ℕ) (tapes : ℕ → 
             sum-choose (wideOps 𝓢) (ltb k m2) parties _ _ ∙ rw (lt-ltb k m2 h) (sum-at F parties 0 (sum (wideOps 𝓢) m1 r) (L .some-party))
         go k l (no h) = sum-choose (wideOps 𝓢) (ltb k m2) parties _ _ ∙ rw (le-ltb k m2 (omega arith)) (sum-products k (omega arith) l)
 
-    sum-a : (j : ℕ) → sum (wideOps 𝓢) parties (λ i. openedA 𝓢 x i (tapes i) d j) ≡ lagrange (wideOps 𝓢) (λ k. k) (suc m2) (S j) R
+    pub sum-a : (j : ℕ) → sum (wideOps 𝓢) parties (λ i. openedA 𝓢 x i (tapes i) d j) ≡ lagrange (wideOps 𝓢) (λ k. k) (suc m2) (S j) R
     unfolding openedA
     sum-a j =
         sum-through 𝓢 L (suc m2) (S j) _ R
         (λ k l. sum-each (wideOps 𝓢) k m2 parties _ _ ∙ ap (at k m2 _) (sum-mul F parties (r j) _ ∙ ap (wideMul 𝓢 (r j)) (honest-inputs j k)))
 
-    sum-b : (j : ℕ) → sum (wideOps 𝓢) parties (λ i. openedB 𝓢 x i (tapes i) d j) ≡ lagrange (wideOps 𝓢) (λ k. k) (suc m2) (T j) R
+    pub sum-b : (j : ℕ) → sum (wideOps 𝓢) parties (λ i. openedB 𝓢 x i (tapes i) d j) ≡ lagrange (wideOps 𝓢) (λ k. k) (suc m2) (T j) R
     unfolding openedB
     sum-b j = sum-through 𝓢 L (suc m2) (T j) _ R (λ k l. sum-each (wideOps 𝓢) k m2 parties _ _ ∙ ap (at k m2 _) (honest-inverses j k))
 

@@ -53,6 +53,24 @@ from-join (suc n) i t a r f h =
 pub each-join : (n : ℕ) (t : ℕ → Bool) (a : ℕ → Answer) (r : Answer) → ((k : ℕ) → k < n → t k ≡ true) → r ≡ Accepted → each n 0 t a r ≡ Accepted
 each-join n t a r f h = from-join n 0 t a r (λ k l m. f k (omega arith)) h
 
+-- "place is the lowest ..": the first test that fails names the refusal
+from-lowest : (n i : ℕ) (t : ℕ → Bool) (a : ℕ → Answer) (r : Answer) (k : ℕ) → i ≤ k → k < i + n → ((l : ℕ) → i ≤ l → l < k → t l ≡ true)
+    → t k ≡ false → each n i t a r ≡ a k
+unfolding each require
+from-lowest zero i t a r k h l f e = absurd (omega arith)
+from-lowest (suc n) i t a r k h l f e = go (ℕ-discrete i k) (from-lowest n (suc i) t a r k)
+  where
+    go : Dec (i ≡ k) → (suc i ≤ k → k < suc i + n → ((l : ℕ) → suc i ≤ l → l < k → t l ≡ true) → t k ≡ false → each n (suc i) t a r ≡ a k)
+        → require (t i) (a i) (each n (suc i) t a r) ≡ a k
+    go (yes p) ih = ap (λ (b : Bool). require b (a i) (each n (suc i) t a r)) (ap t p ∙ e) ∙ ap a p
+    go (no p) ih =
+        ap (λ (b : Bool). require b (a i) (each n (suc i) t a r)) (f i (omega arith) (omega arith))
+        ∙ ih (omega arith) (omega arith) (λ l m q. f l (omega arith) q) e
+
+pub each-lowest : (n : ℕ) (t : ℕ → Bool) (a : ℕ → Answer) (r : Answer) (k : ℕ) → k < n → ((l : ℕ) → l < k → t l ≡ true) → t k ≡ false
+    → each n 0 t a r ≡ a k
+each-lowest n t a r k h f e = from-lowest n 0 t a r k (omega arith) (omega arith) (λ l m q. f l q) e
+
 pub all-split : (n : ℕ) (t : ℕ → Bool) → all n t ≡ true → (k : ℕ) → k < n → t k ≡ true
 unfolding all
 all-split zero t h k l = absurd (omega arith)
