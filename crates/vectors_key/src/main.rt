@@ -1,0 +1,89 @@
+// Reads lines of three lengths, of key, plaintext and output, and 17 bytes each in hexadecimal for key and plaintext. It makes a public key of their
+// first so many bytes and writes each line with the answer's number and place and with the 40 bytes of which the output lent was the first part: ee
+// where nothing was written. vectors/key.py says where the lines are from.
+use banquet::Verdict;
+use libc::STDIN_FILENO;
+use libc::STDOUT_FILENO;
+ghost use mathlib.Core.Path.{_≡_};
+ghost use Prim.Native.Nat.{_<_, _≤_};
+ghost use lib.ListN.{length};
+
+fn wide(x: u8) -> u64 {
+    x as u64
+}
+
+fn print_bytes(s: &[u8]) {
+    for i in 0..s.len() {
+        io::print_hex(STDOUT_FILENO, wide(s[i]), 2);
+    }
+}
+
+fn value(text: u8) -> u8
+    ensures { λ r. ⌜ r < 16 ⌝ }
+{
+    match text {
+        b'0'..=b'9' => text - b'0',
+        b'a'..=b'f' => text - b'a' + 10,
+        _ => 0,
+    }
+}
+
+fn byte(high: u8, low: u8) -> u8 {
+    value(high) * 16 + value(low)
+}
+
+fn decode(text: &[u8]) -> [u8; 17]
+    requires { ⌜ length (now text) ≡ 34 ⌝ }
+{
+    let mut out = [0u8; 17];
+    for i in 0..17 {
+        out[i] = byte(text[2 * i], text[2 * i + 1]);
+    }
+    out
+}
+
+// The number of two decimal digits, or the most where it is less.
+fn size(tens: u8, ones: u8, most: usize) -> usize
+    ensures { λ r. ⌜ r ≤ most ⌝ }
+{
+    let n = (value(tens) * 10 + value(ones)) as usize;
+    if most < n {
+        return most;
+    }
+    n
+}
+
+fn make(line: &[u8], output: &mut [u8]) -> Verdict
+    requires { ⌜ length (now line) ≡ 79 ⌝ }
+    requires { ⌜ length (now output) ≡ 40 ⌝ }
+{
+    let key = decode(&line[9..43]);
+    let plaintext = decode(&line[44..78]);
+    let k = size(line[0], line[1], 17);
+    let p = size(line[3], line[4], 17);
+    let n = size(line[6], line[7], 40);
+    verdict::verdict(public_key::make_public_key(&key[0..k], &plaintext[0..p], &mut output[0..n]))
+}
+
+fn answer(line: &[u8])
+    requires { ⌜ length (now line) ≡ 79 ⌝ }
+{
+    let mut output = [0xeeu8; 40];
+    let verdict = make(line, &mut output);
+    io::write_all(STDOUT_FILENO, &line[0..78]);
+    io::write_all(STDOUT_FILENO, b" ");
+    io::print_decimal(STDOUT_FILENO, wide(verdict.number));
+    io::write_all(STDOUT_FILENO, b" ");
+    io::print_decimal(STDOUT_FILENO, wide(verdict.place));
+    io::write_all(STDOUT_FILENO, b" ");
+    print_bytes(&output);
+    io::write_all(STDOUT_FILENO, b"\n");
+}
+
+fn main() {
+    let mut text = io::buffer();
+    let n = io::read_full(STDIN_FILENO, &mut text);
+    for i in 0..n / 79 {
+        answer(&text[i * 79..i * 79 + 79]);
+    }
+}
