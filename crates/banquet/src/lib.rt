@@ -1,6 +1,4 @@
 // The types that contracts and definitions share; specs/ defines the scheme.
-ghost use mathlib.Core.Path.{_≡_};
-ghost use Rattle.banquet.specs.Answer.{verdictOf};
 
 // The answer of a call: accepted, or the refusal that applies first. specs/Answer.antt has the number and the place of each.
 pub enum Answer {
