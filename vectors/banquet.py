@@ -1,7 +1,9 @@
 #!/usr/bin/env python3
 """The scheme of document 01, for any parameter set, hash and circuit, in plain steps. vectors/toy.py uses it.
 
-Written from the document alone: names and order are its own ("seal" is what the definitions call a signature).
+Written from the document, and not from the definitions: its names and its order ("seal" is what the definitions call a signature). Where the
+document leaves a choice: h3 takes each party's c, a and b before the next party's; a tape has s and t of one j beside each other; number 13 is
+looked for in all parties before 14; an odd count of digits is a bad line; a text that ends behind line n has a bad line n + 1.
 """
 import functools
 import operator
@@ -284,14 +286,21 @@ def seal(scheme, key, public_key, message, salt, seeds, output, work):
     return call(answer, output, work)
 
 
+def frame_of(scheme, file, e):
+    if e >= scheme.executions or len(file) != sum(scheme.seal_sizes):
+        return b''
+    start = 96 + e * sum(scheme.frame_sizes)
+    return file[start:start + sum(scheme.frame_sizes)]
+
+
 def check_seal(scheme, public_key, message, file, work):
     def answer():
         refuse(len(public_key) != scheme.front + 16, 2)
         refuse(len(message) > 32768, 3)
         refuse(len(file) != sum(scheme.seal_sizes), 6)
         refuse(len(work) < WORK, 7)
-        salt, h1, h3, frames = cut(file, *scheme.seal_sizes)
-        frames = [cut(frame, *scheme.frame_sizes) for frame in rows(frames, sum(scheme.frame_sizes))]
+        salt, h1, h3, _ = cut(file, *scheme.seal_sizes)
+        frames = [cut(frame_of(scheme, file, e), *scheme.frame_sizes) for e in range(scheme.executions)]
         sums = [(*scheme.load(frame[5]), scheme.load(frame[6]), scheme.load(frame[7])) for frame in frames]
         for e in range(scheme.executions):
             refuse(not scheme.product_holds(*sums[e]), 15, e)

@@ -8,7 +8,7 @@ import sys
 
 sys.dont_write_bytecode = True
 from banquet import (
-    Scheme, WORK, add, call, card, check_opening, check_seal, make_public_key, open_execution, printed, refuse, rows, seal)
+    Scheme, WORK, add, call, card, check_opening, check_seal, frame_of, make_public_key, open_execution, printed, refuse, seal)
 from field import byte
 
 
@@ -209,7 +209,7 @@ def hexadecimal(s):
     return s.hex().encode() + b'\n'
 
 
-frames = rows(signature.value[96:], sum(TOY.frame_sizes))
+frames = [frame_of(TOY, signature.value, e) for e in range(TOY.executions)]
 lines = [hexadecimal(s) for s in (public_key.value, message.value, signature.value[:96], *frames)]
 card_text = name('card', b''.join(lines))
 
@@ -343,6 +343,7 @@ def opening_rows():
     yield opening_told(opening, flip(public_key, 0))
     yield 'an opening of execution 0 that hides party 0, where R is 1: nobody reads the offsets'
     yield opening_told(flip(first_hidden, at[4], at[5], at[7]))
+    yield opening_told(flip(first_hidden, at[0]))
 
 
 def signature_rows():
@@ -375,10 +376,12 @@ def card_rows():
         return told('cardAnswer toy ' + t.text, card(TOY, t.value))
 
     ends = [sum(map(len, lines[:n + 1])) for n in range(5)]  # behind each line's end
-    yield 'as it should be; nothing; no message'
+    yield 'as it should be; nothing; no message; another c in the last frame'
     yield card_told(card_text)
     yield card_told(literal(b''))
     yield card_told(remove(ends[0], 6, card_text))
+    c = ends[3] + 2 * starts(TOY.frame_sizes)[5]
+    yield card_told(put(card_text, c, b'1' if lines[4][c - ends[3]] == ord('0') else b'0'))
     yield 'ends behind a line'
     for n in range(4):
         yield card_told(take(ends[n], card_text))
@@ -419,6 +422,9 @@ def text_rows():
         yield 'printed (verdict %d %d)' % verdict, printed(*verdict)
     yield 'for no text'
     yield 'printed (verdictOf (cardAnswer toy []))', printed(*card(TOY, b''))
+    yield 'frames of a signature: both, the next, one of a file that is too short'
+    for e, file in ((0, signature), (1, signature), (2, signature), (0, take(SEAL - 1, signature))):
+        yield 'frameOf toy %s %d' % (file.text, e), frame_of(TOY, file.value, e)
     yield 'two rows of S-boxes: a public key, the product offset at 3, the second party\'s shares of a in an opening'
     yield rows_call.output()
     at = starts(ROWS.opening_sizes)
@@ -451,6 +457,7 @@ use Rattle.banquet.specs.declared.Answer.the-variants.{Accepted}
 use Rattle.banquet.specs.Answer.{verdict, verdictOf, clears, workAfter, outputAfter}
 use Rattle.banquet.specs.Signer.{tapeOf, productOffsetAt}
 use Rattle.banquet.specs.Opening.{opening}
+use Rattle.banquet.specs.Signature.{frameOf}
 use Rattle.banquet.specs.Calls.{
   publicKeyAnswer,
   makePublicKey,
@@ -475,7 +482,7 @@ KINDS = (
     ('openings', VERDICTS, 'checks of openings', opening_rows),
     ('signatures', VERDICTS, 'checks of signatures', signature_rows),
     ('cards', VERDICTS, 'card text', card_rows),
-    ('texts', LISTS, 'what is printed', text_rows),
+    ('texts', LISTS, 'what is printed; frames; two rows of S-boxes', text_rows),
     ('others', VERDICTS, 'other sets', other_rows),
 )
 

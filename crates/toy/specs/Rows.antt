@@ -9,6 +9,7 @@ use Rattle.banquet.specs.declared.Answer.the-variants.{Accepted}
 use Rattle.banquet.specs.Answer.{verdict, verdictOf, clears, workAfter, outputAfter}
 use Rattle.banquet.specs.Signer.{tapeOf, productOffsetAt}
 use Rattle.banquet.specs.Opening.{opening}
+use Rattle.banquet.specs.Signature.{frameOf}
 use Rattle.banquet.specs.Calls.{
   publicKeyAnswer,
   makePublicKey,
@@ -192,6 +193,7 @@ openings =
     ∷ (verdictOf (openingChecked toy (put publicKey 0 (101 ∷ [])) openingFile), verdict 14 0)
     -- an opening of execution 0 that hides party 0, where R is 1: nobody reads the offsets
     ∷ (verdictOf (openingChecked toy publicKey (put (put (put firstHidden 177 (171 ∷ [])) 193 (242 ∷ [])) 195 (13 ∷ []))), verdict 0 0)
+    ∷ (verdictOf (openingChecked toy publicKey (put firstHidden 0 (201 ∷ []))), verdict 13 1)
     ∷ []
 
 -- ---- checks of signatures
@@ -236,10 +238,11 @@ signatures =
 
 abbrev pub cards : List (Row Verdict)
 cards =
-    -- as it should be; nothing; no message
+    -- as it should be; nothing; no message; another c in the last frame
     (verdictOf (cardAnswer toy card), verdict 0 0)
     ∷ (verdictOf (cardAnswer toy []), verdict 18 1)
     ∷ (verdictOf (cardAnswer toy (remove 43 6 card)), verdict 16 0)
+    ∷ (verdictOf (cardAnswer toy (put card 582 (48 ∷ []))), verdict 15 1)
     -- ends behind a line
     ∷ (verdictOf (cardAnswer toy (take 43 card)), verdict 18 2)
     ∷ (verdictOf (cardAnswer toy (take 50 card)), verdict 18 3)
@@ -285,7 +288,7 @@ cards =
     ∷ (verdictOf (cardAnswer toy (put (put card 416 (120 ∷ [])) 50 (120 ∷ []))), verdict 18 3)
     ∷ []
 
--- ---- what is printed
+-- ---- what is printed; frames; two rows of S-boxes
 
 abbrev pub texts : List (Row (List ℕ))
 texts =
@@ -307,6 +310,11 @@ texts =
     ∷ (printed (verdict 10 100), 114 ∷ 101 ∷ 102 ∷ 117 ∷ 115 ∷ 101 ∷ 100 ∷ 32 ∷ 49 ∷ 48 ∷ 32 ∷ 49 ∷ 48 ∷ 48 ∷ 10 ∷ [])
     -- for no text
     ∷ (printed (verdictOf (cardAnswer toy [])), 114 ∷ 101 ∷ 102 ∷ 117 ∷ 115 ∷ 101 ∷ 100 ∷ 32 ∷ 49 ∷ 56 ∷ 32 ∷ 49 ∷ 10 ∷ [])
+    -- frames of a signature: both, the next, one of a file that is too short
+    ∷ (frameOf toy signatureFile 0, 189 ∷ 186 ∷ 244 ∷ 124 ∷ 125 ∷ 205 ∷ 151 ∷ 99 ∷ 46 ∷ 236 ∷ 243 ∷ 89 ∷ 2 ∷ 102 ∷ 177 ∷ 12 ∷ 12 ∷ 68 ∷ 187 ∷ 111 ∷ 176 ∷ 230 ∷ 236 ∷ 195 ∷ 123 ∷ 177 ∷ 1 ∷ 16 ∷ 52 ∷ 16 ∷ 15 ∷ 213 ∷ 208 ∷ 221 ∷ 205 ∷ 45 ∷ 123 ∷ 202 ∷ 96 ∷ 149 ∷ 169 ∷ 96 ∷ 56 ∷ 192 ∷ 230 ∷ 109 ∷ 74 ∷ 200 ∷ 167 ∷ 108 ∷ 146 ∷ 9 ∷ 72 ∷ 108 ∷ 249 ∷ 30 ∷ 249 ∷ 198 ∷ 193 ∷ 5 ∷ 89 ∷ 22 ∷ 216 ∷ 190 ∷ 170 ∷ 29 ∷ 200 ∷ 67 ∷ 48 ∷ 53 ∷ 216 ∷ 222 ∷ 230 ∷ 137 ∷ 122 ∷ 164 ∷ 202 ∷ 11 ∷ 153 ∷ 198 ∷ 243 ∷ 12 ∷ 192 ∷ 199 ∷ 45 ∷ 17 ∷ [])
+    ∷ (frameOf toy signatureFile 1, 137 ∷ 226 ∷ 91 ∷ 164 ∷ 164 ∷ 21 ∷ 228 ∷ 155 ∷ 120 ∷ 170 ∷ 252 ∷ 51 ∷ 16 ∷ 87 ∷ 154 ∷ 153 ∷ 35 ∷ 117 ∷ 46 ∷ 179 ∷ 86 ∷ 179 ∷ 202 ∷ 174 ∷ 129 ∷ 36 ∷ 45 ∷ 55 ∷ 185 ∷ 222 ∷ 75 ∷ 90 ∷ 61 ∷ 158 ∷ 145 ∷ 128 ∷ 124 ∷ 30 ∷ 128 ∷ 3 ∷ 191 ∷ 18 ∷ 54 ∷ 1 ∷ 224 ∷ 52 ∷ 138 ∷ 110 ∷ 88 ∷ 150 ∷ 241 ∷ 109 ∷ 204 ∷ 204 ∷ 201 ∷ 105 ∷ 216 ∷ 103 ∷ 80 ∷ 242 ∷ 49 ∷ 193 ∷ 220 ∷ 177 ∷ 177 ∷ 180 ∷ 132 ∷ 11 ∷ 153 ∷ 240 ∷ 169 ∷ 215 ∷ 76 ∷ 51 ∷ 246 ∷ 120 ∷ 33 ∷ 20 ∷ 168 ∷ 212 ∷ 221 ∷ 192 ∷ 121 ∷ 214 ∷ 242 ∷ 204 ∷ [])
+    ∷ (frameOf toy signatureFile 2, [])
+    ∷ (frameOf toy (take 267 signatureFile) 0, [])
     -- two rows of S-boxes: a public key, the product offset at 3, the second party's shares of a in an opening
     ∷ (makePublicKey rowsToy key plaintext (replicate 21 7) .output, 100 ∷ 101 ∷ 102 ∷ 103 ∷ 104 ∷ 181 ∷ 52 ∷ 16 ∷ 143 ∷ 85 ∷ 55 ∷ 56 ∷ 57 ∷ 58 ∷ 59 ∷ 60 ∷ 61 ∷ 62 ∷ 63 ∷ 64 ∷ 65 ∷ [])
     ∷ (productOffsetAt rowsToy (tapeOf rowsToy salt (take 16 seeds) 0) plaintext key (5 ∷ 250 ∷ []) 3 ∷ [], 131 ∷ [])
