@@ -15,5 +15,9 @@ pub mod Signature
 pub mod Calls
 pub mod Card
 pub mod Extraction
+pub mod Lent
+pub mod Refusals
+pub mod OpeningChecks
+pub mod SignatureChecks
 pub mod Sets
 pub mod Cases

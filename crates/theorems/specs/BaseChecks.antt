@@ -14,8 +14,8 @@ use Rattle.banquet.specs.Signature.{headPart, frameOf, frameC, frameA, frameB, 
 use Rattle.banquet.specs.Calls.{verify, verifyOpening}
 use Rattle.banquet.specs.Sets.{baseScheme}
 use Rattle.theorems.specs.Base.{sum32, before, hidden, shown}
-use Rattle.theorems.specs.OpeningChecks as openings
-use Rattle.theorems.specs.SignatureChecks as signatures
+use Rattle.banquet.specs.OpeningChecks as openings
+use Rattle.banquet.specs.SignatureChecks as signatures
 
 -- ---- an opening is accepted exactly where every check holds
 

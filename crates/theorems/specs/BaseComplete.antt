@@ -9,7 +9,7 @@ use Rattle.banquet.specs.declared.Answer.the-variants.{Accepted}
 use Rattle.banquet.specs.Calls.{makePublicKey, sign, verify, openExecution, verifyOpening}
 use Rattle.banquet.specs.Sets.{baseScheme}
 use Rattle.theorems.specs.Sets.{base-laws}
-use Rattle.theorems.specs.Written.{written}
+use Rattle.banquet.specs.Lent.{written}
 use Rattle.theorems.specs.Keys as keys
 use Rattle.theorems.specs.Inputs as inputs
 use Rattle.theorems.specs.OpeningComplete as opens

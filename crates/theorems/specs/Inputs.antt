@@ -12,7 +12,7 @@ use Rattle.banquet.specs.Scheme.{Scheme, GoodKey, Wide}
 use Rattle.banquet.specs.Key.{frontOf, ciphertextOf}
 use Rattle.banquet.specs.Calls.{openAnswer, signAnswer}
 use Rattle.theorems.specs.Laws.{Laws}
-use Rattle.theorems.specs.Refusals.{require-split, require-join}
+use Rattle.banquet.specs.Refusals.{require-split, require-join}
 use Rattle.theorems.specs.Keys.{key-split, key-join}
 
 -- ---- what opening accepts

@@ -20,7 +20,7 @@ use Rattle.banquet.specs.Scheme.{Scheme, GoodKey, trueInverses}
 use Rattle.banquet.specs.Key.{frontOf, ciphertextOf, publicKeyOf, checkInputs, checkKey}
 use Rattle.banquet.specs.Calls.{publicKeyAnswer}
 use Rattle.theorems.specs.Laws.{Laws}
-use Rattle.theorems.specs.Refusals.{require-split, require-join}
+use Rattle.banquet.specs.Refusals.{require-split, require-join}
 
 module _ (𝓢 : Scheme) (L : Laws 𝓢) where
   -- the S-box inputs of a key are as many bytes as there are S-boxes

@@ -1,12 +1,9 @@
 -- The theorems, from the definitions of `banquet` alone.
 pub mod Laws
 pub mod Wide
-pub mod Refusals
 pub mod Seeds
 pub mod Shares
 pub mod Keys
-pub mod OpeningChecks
-pub mod SignatureChecks
 pub mod Soundness
 pub mod Opened
 pub mod Honest
@@ -16,7 +13,6 @@ pub mod Recomputed
 pub mod SignatureFrame
 pub mod SignatureComplete
 pub mod Sets
-pub mod Written
 pub mod Base
 pub mod BaseChecks
 pub mod BaseComplete

@@ -50,7 +50,7 @@ use Rattle.banquet.specs.Calls.{verifyOpeningAnswer}
 use Rattle.theorems.specs.Laws.{Laws}
 use Rattle.theorems.specs.Inputs.{OpenInput}
 use Rattle.theorems.specs.Keys.{sized-front}
-use Rattle.theorems.specs.OpeningChecks.{PartyHolds, TranscriptHolds, holds-opening}
+use Rattle.banquet.specs.OpeningChecks.{PartyHolds, TranscriptHolds, holds-opening}
 use Rattle.theorems.specs.Shares.{IsTape, hashed-tape, Fits, sized-outputShare}
 use Rattle.theorems.specs.Seeds.{length-siblingSeeds, shown-siblings}
 use Rattle.theorems.specs.Opened.{WideChallenge, wide-C, wide-A, wide-B}

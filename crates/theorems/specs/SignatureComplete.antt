@@ -22,7 +22,7 @@ use Rattle.theorems.specs.Laws.{Laws}
 use Rattle.theorems.specs.SignatureFrame as one
 use Rattle.theorems.specs.Inputs.{SignInput}
 use Rattle.theorems.specs.Keys.{sized-front}
-use Rattle.theorems.specs.SignatureChecks.{FramesHold, holds-signature}
+use Rattle.banquet.specs.SignatureChecks.{FramesHold, holds-signature}
 use Rattle.theorems.specs.Recomputed.{firstHash-cong, secondHash-cong, thirdHash-cong}
 
 module _ (𝓢 : Scheme) (L : Laws 𝓢) (key publicKey message salt seeds : List ℕ) (input : SignInput 𝓢 key publicKey message salt seeds) where

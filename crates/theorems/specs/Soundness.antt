@@ -47,7 +47,7 @@ use Rattle.theorems.specs.Laws.{Laws}
 use Rattle.theorems.specs.Wide.{wide-field, wide-points, wide-number}
 use Rattle.theorems.specs.Shares.{IsTape, hashed-tape, tape-bytes, Fits, sized-givenKey, sized-givenInverses, sum-inputs, sum-outputs, total-inputs, total-inverses}
 use Rattle.theorems.specs.Keys.{sized-front}
-use Rattle.theorems.specs.OpeningChecks.{PartyHolds, TranscriptHolds, OpeningHolds, opening-holds}
+use Rattle.banquet.specs.OpeningChecks.{PartyHolds, TranscriptHolds, OpeningHolds, opening-holds}
 
 module _ (𝓢 : Scheme) (L : Laws 𝓢) where
   open Shape (𝓢 .shape) using (parties, wide, m1, m2)

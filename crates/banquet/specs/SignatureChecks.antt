@@ -21,8 +21,8 @@ use Rattle.banquet.specs.Signature.{
   recomputedH3,
   checkSignature,
 }
 use Rattle.banquet.specs.Calls.{verifyAnswer}
-use Rattle.theorems.specs.Refusals.{require-split, require-join, each-split, each-join}
+use Rattle.banquet.specs.Refusals.{require-split, require-join, each-split, each-join}
 
 -- The product of every frame (15), and the two recomputed hashes (16, 17).
 module _ (𝓢 : Scheme) (publicKey message salt h1 h3 : List ℕ) (frames : ℕ → List ℕ) where

@@ -11,17 +11,17 @@ use Rattle.slices.specs.Lists.{sumXor}
 use Rattle.slices.specs.Tests.{and-split, and-join}
 use Rattle.slices.specs.Compare.{same-eq, same-refl}
 use Rattle.poly.specs.Sum.{sum}
 use Rattle.banquet.specs.declared.Answer.the-variants.{Accepted}
 use Rattle.banquet.specs.declared.Shape.{Shape}
 use Rattle.banquet.specs.Shape.{workLength, publicKeyLength, openingLength}
 use Rattle.banquet.specs.Scheme.{Scheme, wideOps, wideMul}
 use Rattle.banquet.specs.Key.{ciphertextOf}
 use Rattle.banquet.specs.Hash.{commitment}
 use Rattle.banquet.specs.Execution.{Committed, Challenge, outputShare, openedC, openedA, openedB}
 use Rattle.banquet.specs.Opening.{transcriptOf, hiddenOf, saltOf, executionOf, commitmentOf, outputOf, secondOf, challengeOf, tapeUnder, cOf, aOf, bOf, sumC, sumA, sumB, committedOf, commitmentHolds, outputHolds, cHolds, aHolds, bHolds, sharesHold, shownSeed, checkOpening}
 use Rattle.banquet.specs.Calls.{verifyOpeningAnswer}
 use Rattle.banquet.specs.Extraction.{seedsOf}
-use Rattle.theorems.specs.Refusals.{
+use Rattle.banquet.specs.Refusals.{
   require-split,
   require-join,
   each-split,
