@@ -4,49 +4,16 @@
 use libc::STDIN_FILENO;
 use libc::STDOUT_FILENO;
 ghost use mathlib.Core.Path.{_≡_};
-ghost use Prim.Native.Nat.{_<_};
 ghost use lib.ListN.{length};
-
-fn wide(x: u8) -> u64 {
-    x as u64
-}
-
-fn print_bytes(s: &[u8]) {
-    for i in 0..s.len() {
-        io::print_hex(STDOUT_FILENO, wide(s[i]), 2);
-    }
-}
-
-fn value(text: u8) -> u8
-    ensures { λ r. ⌜ r < 16 ⌝ }
-{
-    match text {
-        b'0'..=b'9' => text - b'0',
-        b'a'..=b'f' => text - b'a' + 10,
-        _ => 0,
-    }
-}
-
-fn byte(high: u8, low: u8) -> u8 {
-    value(high) * 16 + value(low)
-}
-
-fn decode(text: &[u8]) -> [u8; 16]
-    requires { ⌜ length (now text) ≡ 32 ⌝ }
-{
-    let mut out = [0u8; 16];
-    for i in 0..16 {
-        out[i] = byte(text[2 * i], text[2 * i + 1]);
-    }
-    out
-}
 
 fn encrypt(line: &[u8], inputs: &mut [u8]) -> [u8; 16]
     requires { ⌜ length (now line) ≡ 66 ⌝ }
     requires { ⌜ length (now inputs) ≡ 200 ⌝ }
 {
-    let key = decode(&line[0..32]);
-    let plaintext = decode(&line[33..65]);
+    let mut key = [0u8; 16];
+    hex::decode(&line[0..32], &mut key);
+    let mut plaintext = [0u8; 16];
+    hex::decode(&line[33..65], &mut plaintext);
     cipher::encrypt(&key, &plaintext, inputs)
 }
 
@@ -57,7 +24,7 @@ fn answer(line: &[u8])
     let ciphertext = encrypt(line, &mut inputs);
     io::write_all(STDOUT_FILENO, &line[0..65]);
     io::write_all(STDOUT_FILENO, b" ");
-    print_bytes(&ciphertext);
+    print::hex(&ciphertext);
     io::write_all(STDOUT_FILENO, b" ");
     io::print_decimal(STDOUT_FILENO, cipher::first_zero(&inputs) as u64);
     io::write_all(STDOUT_FILENO, b"\n");
@@ -69,9 +36,9 @@ fn print_rounds(inputs: &[u8])
     for n in 0..10 {
         let word = n * 4;
         let state = 40 + n * 16;
-        print_bytes(&inputs[word..word + 4]);
+        print::hex(&inputs[word..word + 4]);
         io::write_all(STDOUT_FILENO, b" ");
-        print_bytes(&inputs[state..state + 16]);
+        print::hex(&inputs[state..state + 16]);
         io::write_all(STDOUT_FILENO, b"\n");
     }
 }

@@ -5,10 +5,6 @@ ghost use mathlib.Core.Path.{_≡_};
 ghost use Prim.Native.Nat.{_<_, _^_};
 ghost use lib.ListN.{length};
 
-fn wide(x: u8) -> u64 {
-    x as u64
-}
-
 // A word, and a number in hexadecimal.
 fn print(word: &[u8], value: u64) {
     io::write_all(STDOUT_FILENO, word);
@@ -34,8 +30,8 @@ fn product48(a: u64, b: u64) {
 }
 
 fn byte(b: u8) {
-    print(b"byte ", wide(b));
-    print(b": inverse ", wide(gf::inverse(b)));
+    print(b"byte ", b as u64);
+    print(b": inverse ", gf::inverse(b) as u64);
     print(b", lift ", gf::lift32(b) as u64);
     end_line();
 }

@@ -5,48 +5,14 @@ use banquet::Verdict;
 use libc::STDIN_FILENO;
 use libc::STDOUT_FILENO;
 ghost use mathlib.Core.Path.{_≡_};
-ghost use Prim.Native.Nat.{_<_, _≤_};
+ghost use Prim.Native.Nat.{_≤_};
 ghost use lib.ListN.{length};
-
-fn wide(x: u8) -> u64 {
-    x as u64
-}
-
-fn print_bytes(s: &[u8]) {
-    for i in 0..s.len() {
-        io::print_hex(STDOUT_FILENO, wide(s[i]), 2);
-    }
-}
-
-fn value(text: u8) -> u8
-    ensures { λ r. ⌜ r < 16 ⌝ }
-{
-    match text {
-        b'0'..=b'9' => text - b'0',
-        b'a'..=b'f' => text - b'a' + 10,
-        _ => 0,
-    }
-}
-
-fn byte(high: u8, low: u8) -> u8 {
-    value(high) * 16 + value(low)
-}
-
-fn decode(text: &[u8]) -> [u8; 17]
-    requires { ⌜ length (now text) ≡ 34 ⌝ }
-{
-    let mut out = [0u8; 17];
-    for i in 0..17 {
-        out[i] = byte(text[2 * i], text[2 * i + 1]);
-    }
-    out
-}
 
 // The number of two decimal digits, or the most where it is less.
 fn size(tens: u8, ones: u8, most: usize) -> usize
     ensures { λ r. ⌜ r ≤ most ⌝ }
 {
-    let n = (value(tens) * 10 + value(ones)) as usize;
+    let n = (hex::digit(tens) % 16 * 10 + hex::digit(ones) % 16) as usize;
     if most < n {
         return most;
     }
@@ -57,8 +23,10 @@ fn make(line: &[u8], output: &mut [u8]) -> Verdict
     requires { ⌜ length (now line) ≡ 79 ⌝ }
     requires { ⌜ length (now output) ≡ 40 ⌝ }
 {
-    let key = decode(&line[9..43]);
-    let plaintext = decode(&line[44..78]);
+    let mut key = [0u8; 17];
+    hex::decode(&line[9..43], &mut key);
+    let mut plaintext = [0u8; 17];
+    hex::decode(&line[44..78], &mut plaintext);
     let k = size(line[0], line[1], 17);
     let p = size(line[3], line[4], 17);
     let n = size(line[6], line[7], 40);
@@ -72,11 +40,11 @@ fn answer(line: &[u8])
     let verdict = make(line, &mut output);
     io::write_all(STDOUT_FILENO, &line[0..78]);
     io::write_all(STDOUT_FILENO, b" ");
-    io::print_decimal(STDOUT_FILENO, wide(verdict.number));
+    io::print_decimal(STDOUT_FILENO, verdict.number as u64);
     io::write_all(STDOUT_FILENO, b" ");
-    io::print_decimal(STDOUT_FILENO, wide(verdict.place));
+    io::print_decimal(STDOUT_FILENO, verdict.place as u64);
     io::write_all(STDOUT_FILENO, b" ");
-    print_bytes(&output);
+    print::hex(&output);
     io::write_all(STDOUT_FILENO, b"\n");
 }
 

@@ -11,16 +11,6 @@ fn fill(input: &mut [u8]) {
     }
 }
 
-fn wide(x: u8) -> u64 {
-    x as u64
-}
-
-fn write_hex(out: &[u8]) {
-    for i in 0..out.len() {
-        io::print_hex(STDOUT_FILENO, wide(out[i]), 2);
-    }
-}
-
 // n in decimal, and a space.
 fn write_number(n: usize) {
     io::print_decimal(STDOUT_FILENO, n as u64);
@@ -45,7 +35,7 @@ fn pieces(src: &[u8], piece: usize) -> sponge::Sponge
 // The next bytes of output, in hex.
 fn squeeze_hex(s: sponge::Sponge, out: &mut [u8]) -> sponge::Sponge {
     let t = sponge::squeeze(s, out);
-    write_hex(out);
+    print::hex(out);
     t
 }
 
@@ -73,7 +63,7 @@ fn show_example() {
     let input = [0xa3u8; 200];
     let mut out = [0u8; 512];
     sponge::digest(&input, &mut out);
-    write_hex(&out);
+    print::hex(&out);
     io::write_all(STDOUT_FILENO, b"\n");
 }
 

@@ -1,0 +1,2 @@
+-- A law that the proof of `decode` cites.
+mod Laws
