@@ -1,7 +1,7 @@
 -- The scheme as definitions, of which every contract and theorem speaks. In the order of reading: a parameter set and its sizes (Shape), what the
--- scheme is built over (Scheme), the nine hash inputs (Hash), the tree of seeds (Tree), one execution (Execution, Signer), openings and signatures
--- (Opening, Signature), answers (Answer, Key), the five calls (Calls), card text (Card), and what demand 3 speaks of (Extraction). Sets has the
--- parameter sets, Cases the starred cases of document 01.
+-- scheme is built over (Scheme), the nine hash inputs (Hash), the tree of seeds (Tree), one execution (Execution, Signer), answers and keys (Answer,
+-- Key), openings and signatures (Opening, Signature), the five calls (Calls), card text (Card), and what demand 3 says (Extraction). Sets has the
+-- parameter sets, and Cases the starred cases. What a seal is in document 01 is a signature here, and its draws are challenges.
 pub mod Shape
 pub mod Scheme
 pub mod Hash
@@ -15,9 +15,11 @@ pub mod Signature
 pub mod Calls
 pub mod Card
 pub mod Extraction
+pub mod Sets
+pub mod Cases
+
+-- Laws that ask for nothing: the slices lent by answer, refusals in order, and that a check accepts exactly where all that it checks holds.
 pub mod Lent
 pub mod Refusals
 pub mod OpeningChecks
 pub mod SignatureChecks
-pub mod Sets
-pub mod Cases

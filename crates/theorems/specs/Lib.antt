@@ -1,4 +1,5 @@
--- The theorems, from the definitions of `banquet` alone.
+-- The theorems. Of any scheme that has its Laws: demand 3 (Soundness), and that openings and signatures made with a good key are accepted
+-- (OpeningComplete, SignatureComplete). Of document 01's set, which has them (Sets): Base, BaseChecks and BaseComplete, to be read first.
 pub mod Laws
 pub mod Wide
 pub mod Seeds
