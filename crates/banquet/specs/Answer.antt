@@ -98,8 +98,11 @@ all (suc n) test = all n test && test n
 abbrev pub clears : Verdict → Bool
 clears v = eqb (v .number) 0 || (leb 13 (v .number) && leb (v .number) 17)
 
+unfoldable pub cleared : List ℕ → List ℕ
+cleared work = replicate workLength 0 ++ drop workLength work
+
 unfoldable pub workAfter : Answer → List ℕ → List ℕ
-workAfter answer work = choose (clears (verdictOf answer)) (replicate workLength 0 ++ drop workLength work) work
+workAfter answer work = choose (clears (verdictOf answer)) (cleared work) work
 
 -- "Output beyond the stated length is untouched": on success it begins with the file that the call makes.
 unfoldable pub outputAfter : Answer → List ℕ → List ℕ → List ℕ

@@ -1,5 +1,6 @@
 -- Card text: "lower-case hexadecimal, one frame a line, each line ended by byte 0x0A: public key, message (may be empty, at most 65,536 digits), the
 -- 96 head bytes, 41 frames; then nothing. It prints `accepted`, or `refused`, number, place, with single spaces and a line end."
+use mathlib.Core.Path.{_≡_, refl}
 use mathlib.Core.Bool.{Bool, true, _&&_}
 use mathlib.Core.List.{List, [], _∷_, _++_}
 use Prim.Native.Nat.{ℕ, zero, suc, _+_, _-_, _*_, _/_, _%_}
@@ -77,6 +78,11 @@ module _ (𝓢 : Scheme) where
   unfoldable pub checkLines : ℕ → ℕ → List ℕ → Answer → Answer
   checkLines zero n text rest = require (eqb (length text) 0) (TextForm n) rest
   checkLines (suc left) n text rest = require (isLine n text) (TextForm n) (checkLines left (suc n) (afterLine text) rest)
+
+  -- a text that is at its end where line n is due is bad at line n
+  pub missing-line : (left n : ℕ) (rest : Answer) → checkLines (suc left) n [] rest ≡ TextForm n
+  unfolding checkLines isLine lineOf require
+  missing-line left n rest = refl
 
   -- the signature stands in line 3 and the lines after it
   abbrev pub cardSignature : List ℕ → List ℕ

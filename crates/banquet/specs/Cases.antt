@@ -1,6 +1,6 @@
 -- "The starred cases are shown of the definitions as rows of a single list, by one proof." Quotations are without the stars.
 use mathlib.Core.Path.{_≡_, refl}
-use mathlib.Core.List.{List, [], _∷_, _++_, map}
+use mathlib.Core.List.{List, [], _∷_, map}
 use Prim.Native.Nat.{ℕ}
 use Rattle.field.specs.Linear.{combine, orbit}
 use Rattle.field.specs.Ring.{xtime, times}
@@ -12,8 +12,6 @@ use Rattle.banquet.specs.Shape.{jOf, kOf, sboxAt}
 use Rattle.banquet.specs.Scheme.{wideMul, lifted}
 use Rattle.banquet.specs.Hash.{evaluationPoint, partyOf}
 use Rattle.banquet.specs.Tree.{nodeNumbers, siblings}
-use Rattle.banquet.specs.Answer.{require}
-use Rattle.banquet.specs.Card.{lineOf, isLine, checkLines, cardAnswer, decimalIn, refusedWord, printed, cardOutput}
 use Rattle.banquet.specs.Sets.{base, baseScheme}
 
 -- what the definitions give, and what document 01 says
@@ -48,8 +46,3 @@ module _ (salt : List ℕ) (e : ℕ) (root : List ℕ) where
   pub starred-hold : map (λ (r : Row). r .0) starred ≡ map (λ (r : Row). r .1) starred
   unfolding xtime times combine orbit iterate inverse onesPower lift matrix sbox siblings evaluationPoint partyOf
   starred-hold = refl
-
--- "Empty input prints the whole output `refused 18 1`", with a line end
-pub empty-card : cardOutput baseScheme [] ≡ refusedWord ++ (0x20 ∷ 0x31 ∷ 0x38 ∷ 0x20 ∷ 0x31 ∷ 0x0a ∷ [])
-unfolding cardOutput cardAnswer checkLines isLine lineOf require printed decimalIn
-empty-card = refl

@@ -1,15 +1,14 @@
 -- What a call leaves in the slices that it was lent, by its answer. Assumes nothing.
 use mathlib.Core.Path.{_≡_, refl, _∙_, ap}
-use mathlib.Core.List.{List, _++_}
+use mathlib.Core.List.{List}
 use Prim.Native.Nat.{ℕ, _≤_, _<_}
 use native.Mathlib.Omega.{arith}
-use lib.ListN.{length, take, drop, replicate}
+use lib.ListN.{length, take, drop}
 use lib.Seq.{take-at}
 use borrow.Author.Tests.{ne-eqb, le-leb, lt-leb}
 use Rattle.banquet.specs.declared.Answer.{Answer}
 use Rattle.banquet.specs.declared.Answer.the-variants.{Accepted}
-use Rattle.banquet.specs.Shape.{workLength}
-use Rattle.banquet.specs.Answer.{verdictOf, workAfter, outputAfter}
+use Rattle.banquet.specs.Answer.{verdictOf, cleared, workAfter, outputAfter}
 
 -- accepted, the output begins with the file
 pub written : (n : ℕ) {answer : Answer} {file : List ℕ} (output : List ℕ) → length file ≡ n → answer ≡ Accepted
@@ -32,10 +31,10 @@ module _ (answer : Answer) where
   work-untouched h l work = rw (ne-eqb number 0 (λ e. omega arith), lt-leb 13 number l)
 
   -- "After 13 to 17, and on success, the work slice's first 65,536 bytes are zero and its rest untouched."
-  pub work-cleared : 13 ≤ number → number ≤ 17 → (work : List ℕ) → workAfter answer work ≡ replicate workLength 0 ++ drop workLength work
+  pub work-cleared : 13 ≤ number → number ≤ 17 → (work : List ℕ) → workAfter answer work ≡ cleared work
   unfolding workAfter
   work-cleared h l work = rw (ne-eqb number 0 (λ e. omega arith), le-leb 13 number h, le-leb number 17 l)
 
-pub work-cleared-on-success : (work : List ℕ) → workAfter Accepted work ≡ replicate workLength 0 ++ drop workLength work
+pub work-cleared-on-success : (work : List ℕ) → workAfter Accepted work ≡ cleared work
 unfolding workAfter
 work-cleared-on-success work = refl

@@ -17,7 +17,6 @@ pub mod Card
 pub mod Extraction
 pub mod Sets
 pub mod Cases
-
 -- Laws that ask for nothing: the slices lent by answer, refusals in order, and that a check accepts exactly where all that it checks holds.
 pub mod Lent
 pub mod Refusals

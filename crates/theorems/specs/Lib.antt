@@ -17,3 +17,4 @@ pub mod Sets
 pub mod Base
 pub mod BaseChecks
 pub mod BaseComplete
+pub mod BaseCard

@@ -27,7 +27,7 @@ use Rattle.banquet.specs.Hash.{
 use Rattle.banquet.specs.Tree.{leaves, siblings, shownLeaves}
 use Rattle.banquet.specs.Execution.{tapePart, inputShares, outputShare, inputAt, inverseAt, productAt, openedC, openedA, openedB}
 use Rattle.banquet.specs.Signer.{productOffsetAt, productOffsets}
-use Rattle.banquet.specs.Answer.{require, each, all, workAfter, outputAfter}
+use Rattle.banquet.specs.Answer.{require, each, all, cleared, workAfter, outputAfter}
 use Rattle.banquet.specs.Key.{publicKeyOf, checkInputs, checkKey}
 use Rattle.banquet.specs.Opening.{commitmentHolds, sharesHold, checkOpening, transcript, opening}
 use Rattle.banquet.specs.Signature.{
@@ -77,7 +77,7 @@ unfolding commitmentHolds sharesHold checkOpening frameOf frameHolds completed c
 checks = tt
 
 unfoldable answers : Unit {0}
-unfolding require each all workAfter outputAfter publicKeyAnswer signAnswer verifyAnswer openAnswer verifyOpeningAnswer
+unfolding require each all cleared workAfter outputAfter publicKeyAnswer signAnswer verifyAnswer openAnswer verifyOpeningAnswer
 answers = tt
 
 unfoldable keys : Unit {0}

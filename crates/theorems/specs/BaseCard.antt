@@ -1,0 +1,10 @@
+-- "Empty input prints the whole output `refused 18 1`", with a line end. Assumes nothing.
+use mathlib.Core.Path.{_≡_, refl}
+use mathlib.Core.List.{List, [], _∷_, _++_}
+use Rattle.banquet.specs.Answer.{require}
+use Rattle.banquet.specs.Card.{lineOf, isLine, checkLines, cardAnswer, decimalIn, refusedWord, printed, cardOutput}
+use Rattle.banquet.specs.Sets.{baseScheme}
+
+pub empty-card : cardOutput baseScheme [] ≡ refusedWord ++ (0x20 ∷ 0x31 ∷ 0x38 ∷ 0x20 ∷ 0x31 ∷ 0x0a ∷ [])
+unfolding cardOutput cardAnswer checkLines isLine lineOf require printed decimalIn
+empty-card = refl
