@@ -464,7 +464,6 @@ use Rattle.banquet.specs.Calls.{
   signAnswer,
   sign,
   verifyAnswer,
-  verify,
   openAnswer,
   openExecution,
   verifyOpeningAnswer,

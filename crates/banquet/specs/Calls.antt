@@ -1,6 +1,6 @@
--- "Five calls: make a public key (from key and plaintext); seal; check a seal; open one execution under given draws; check such an opening." Each is a
--- function of the lists that it is lent: its answer, where "The first that applies is returned", and what the slices lent for writing then hold. The
--- slices lent for reading stay as they are.
+-- "Five calls: make a public key (from key and plaintext); seal; check a seal; open one execution under given draws; check such an opening." Each
+-- is a function of the lists that it is lent: its answer, where "The first that applies is returned", and what the slices lent for writing then
+-- hold. The slices lent for reading stay as they are.
 use mathlib.Core.List.{List}
 use Prim.Native.Nat.{ℕ}
 use lib.Dec.{eqb, ltb, leb}

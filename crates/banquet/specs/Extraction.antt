@@ -1,4 +1,4 @@
--- What demand 3 speaks of: "Take any two accepted openings of one execution .. that agree .. but hide different parties." The theorem is in `theorems`.
+-- What demand 3 says: "Take any two accepted openings of one execution .. that agree .. but hide different parties." Its proof is in `theorems`.
 use mathlib.Core.Path.{_≡_}
 use mathlib.Core.Logic.{_≢_, _⊎_}
 use mathlib.Core.List.{List}
@@ -68,8 +68,9 @@ module _ (𝓢 : Scheme) (x : Committed) (tapes : ℕ → List ℕ) where
         checkPoly (wideOps 𝓢) m1 m2 (λ k. k) (valuesS (wideOps 𝓢) m1 m2 (d .first) givenInput givenS)
         (valuesT (wideOps 𝓢) m1 m2 givenInverse givenT) (valuesP (wideOps 𝓢) m1 m2 (sum (wideOps 𝓢) m1 (d .first)) givenProduct)
 
-    -- "That key is then good, or one of two things holds: one of the ten first draws, beside the other nine, balances all twenty rows, and every other
-    -- value in its place leaves some row out of balance; or the check polynomial isn't zero, has at most 40 roots, and the second draw is one of them."
+    -- "That key is then good, or one of two things holds: one of the ten first draws, beside the other nine, balances all twenty rows, and every
+    -- other value in its place leaves some row out of balance; or the check polynomial isn't zero, has at most 40 roots, and the second draw is one
+    -- of them."
     abbrev pub GoodOrLucky : List ℕ → Type 0
     GoodOrLucky ciphertext =
         GoodKey 𝓢 (x .front) ciphertext givenKey
@@ -113,8 +114,8 @@ module _ (𝓢 : Scheme) where
     OneKey seed =
         GoodOrLucky 𝓢 (committedOf 𝓢 publicKey t) (λ i. tapeUnder 𝓢 t i (seed i)) (challengeOf 𝓢 t) (ciphertextOf 𝓢 publicKey)
 
-  -- "Take any two accepted openings of one execution, whoever made them and whatever their bytes, that agree .. but hide different parties. Either the
-  -- two show some party under two unequal seeds with one commitment, or they show each of the sixteen parties under one seed only, and .."
+  -- "Take any two accepted openings of one execution, whoever made them and whatever their bytes, that agree .. but hide different parties. Either
+  -- the two show some party under two unequal seeds with one commitment, or they show each of the sixteen parties under one seed only, and .."
   abbrev pub Demand3 : Type 0
   Demand3 =
       (publicKey o o′ : List ℕ) → Bytes publicKey → Bytes o → AcceptedOpening publicKey o → AcceptedOpening publicKey o′ → Agree o o′

@@ -18,7 +18,32 @@ use Rattle.banquet.specs.Scheme.{Scheme, wideOps, wideMul}
 use Rattle.banquet.specs.Key.{ciphertextOf}
 use Rattle.banquet.specs.Hash.{commitment}
 use Rattle.banquet.specs.Execution.{Committed, Challenge, outputShare, openedC, openedA, openedB}
-use Rattle.banquet.specs.Opening.{transcriptOf, hiddenOf, saltOf, executionOf, commitmentOf, outputOf, secondOf, challengeOf, tapeUnder, cOf, aOf, bOf, sumC, sumA, sumB, committedOf, commitmentHolds, outputHolds, cHolds, aHolds, bHolds, sharesHold, shownSeed, checkOpening}
+use Rattle.banquet.specs.Opening.{
+  transcriptOf,
+  hiddenOf,
+  saltOf,
+  executionOf,
+  commitmentOf,
+  outputOf,
+  secondOf,
+  challengeOf,
+  tapeUnder,
+  cOf,
+  aOf,
+  bOf,
+  sumC,
+  sumA,
+  sumB,
+  committedOf,
+  commitmentHolds,
+  outputHolds,
+  cHolds,
+  aHolds,
+  bHolds,
+  sharesHold,
+  shownSeed,
+  checkOpening,
+}
 use Rattle.banquet.specs.Calls.{verifyOpeningAnswer}
 use Rattle.banquet.specs.Extraction.{seedsOf}
 use Rattle.banquet.specs.Refusals.{

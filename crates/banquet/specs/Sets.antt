@@ -80,7 +80,7 @@ base-figures = refl
 pub short-figures : figures short ≡ 32 ∷ 60 ∷ 384 ∷ 462 ∷ 612 ∷ 14784 ∷ 19172 ∷ 19059 ∷ []
 short-figures = refl
 
--- "The public key is 48 bytes .. The tape is 324 bytes, a frame 424, a seal 17,496 with the tag, and an opening 2,250 with 32 of first draws.": 17,480
--- without the tag
+-- "The public key is 48 bytes .. The tape is 324 bytes, a frame 424, a seal 17,496 with the tag, and an opening 2,250 with 32 of first draws."
+-- Without the tag it is 17,480.
 pub scheduleFree-figures : figures scheduleFree ≡ 48 ∷ 32 ∷ 656 ∷ 324 ∷ 424 ∷ 17480 ∷ 2250 ∷ 2185 ∷ []
 scheduleFree-figures = refl

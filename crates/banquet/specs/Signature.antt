@@ -110,8 +110,8 @@ module _ (𝓢 : Scheme) where
     abbrev pub signerHidden : ℕ → ℕ
     signerHidden e = hiddenParty 𝓢 signerH3 e
 
-    -- "four sibling seeds from the top down (64), hidden commitment (32), key offset (16), inverse offsets (200), product offsets (84), c (4), a (40),
-    -- b (40)"
+    -- "four sibling seeds from the top down (64), hidden commitment (32), key offset (16), inverse offsets (200), product offsets (84), c (4),
+    -- a (40), b (40)"
     unfoldable pub signerFrame : ℕ → List ℕ
     signerFrame e =
         layout

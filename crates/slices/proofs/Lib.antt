@@ -1,6 +1,5 @@
--- Laws for proofs of functions: loops that fill a slice, parts that are lent and come back, rows, arrays, numbers.
+-- Laws for proofs of functions: loops that fill a slice, parts that are lent and come back, rows, arrays.
 pub mod Fill
 pub mod Put
 pub mod Rows
 pub mod Array
-pub mod Numbers

@@ -34,9 +34,9 @@ fn read(src: &[u8], j: usize, w: usize) -> u64
     ensures { λ r. ⌜ r ≡ number (part j w (now (src .entry))) ⌝ }
 {
     if w == 8 {
-        slices::load(src, j, 8)
+        numbers::load(src, j, 8)
     } else {
-        slices::load(src, j, w)
+        numbers::load(src, j, w)
     }
 }
 
@@ -46,9 +46,9 @@ fn write(out: &mut [u8], j: usize, w: usize, x: u64)
     ensures { λ _. ⌜ now (out .exit) ≡ put (now (out .entry)) j (bytesOf w x) ⌝ }
 {
     if w == 8 {
-        slices::store(out, j, 8, x);
+        numbers::store(out, j, 8, x);
     } else {
-        slices::store(out, j, w, x);
+        numbers::store(out, j, w, x);
     }
 }
 

@@ -1,6 +1,6 @@
 -- "Empty input prints the whole output `refused 18 1`", with a line end. Assumes nothing.
 use mathlib.Core.Path.{_≡_, refl}
-use mathlib.Core.List.{List, [], _∷_, _++_}
+use mathlib.Core.List.{[], _∷_, _++_}
 use Rattle.banquet.specs.Answer.{require}
 use Rattle.banquet.specs.Card.{lineOf, isLine, checkLines, cardAnswer, decimalIn, refusedWord, printed, cardOutput}
 use Rattle.banquet.specs.Sets.{baseScheme}

@@ -9,7 +9,19 @@ use Rattle.field.specs.Wide32.{mul32}
 use Rattle.banquet.specs.declared.Answer.the-variants.{Accepted}
 use Rattle.banquet.specs.Hash.{commitment}
 use Rattle.banquet.specs.Execution.{Committed, Challenge, outputShare, openedC, openedA, openedB}
-use Rattle.banquet.specs.Opening.{saltOf, executionOf, commitmentOf, outputOf, secondOf, cOf, aOf, bOf, challengeOf, committedOf, tapeUnder}
+use Rattle.banquet.specs.Opening.{
+  saltOf,
+  executionOf,
+  commitmentOf,
+  outputOf,
+  secondOf,
+  cOf,
+  aOf,
+  bOf,
+  challengeOf,
+  committedOf,
+  tapeUnder,
+}
 use Rattle.banquet.specs.Signature.{headPart, frameOf, frameC, frameA, frameB, recomputedH1, recomputedH3}
 use Rattle.banquet.specs.Calls.{verify, verifyOpening}
 use Rattle.banquet.specs.Sets.{baseScheme}
@@ -117,7 +129,8 @@ module _ (publicKey message s work : List ℕ) where
     pub message-length : length message ≤ 32768
     pub signature-length : length s ≡ 19776
     pub work-length : 65536 ≤ length work
-    pub product : (e : ℕ) → e < 41 → frameC baseScheme (frame e) ≡ sum32 10 (λ j. mul32 (frameA baseScheme (frame e) j) (frameB baseScheme (frame e) j))
+    pub product : (e : ℕ) → e < 41
+        → frameC baseScheme (frame e) ≡ sum32 10 (λ j. mul32 (frameA baseScheme (frame e) j) (frameB baseScheme (frame e) j))
     pub first-hash : recomputedH1 baseScheme publicKey message salt h1 h3 frame ≡ h1
     pub third-hash : recomputedH3 baseScheme publicKey message salt h1 h3 frame ≡ h3
 

@@ -20,7 +20,8 @@ pub made-key-good : (key plaintext output : List ℕ) → Bytes key → Bytes pl
     → makePublicKey baseScheme key plaintext output .answer ≡ Accepted
     → let publicKey = take 32 (makePublicKey baseScheme key plaintext output .output) in GoodKey (take 16 publicKey) (drop 16 publicKey) key
 made-key-good key plaintext output kb pb acc =
-    subst (λ (p : List ℕ). GoodKey (take 16 p) (drop 16 p) key) (sym (written 32 output (keys.publicKeyOf-size baseScheme base-laws key plaintext output kb pb acc) acc))
+    subst (λ (p : List ℕ). GoodKey (take 16 p) (drop 16 p) key)
+    (sym (written 32 output (keys.publicKeyOf-size baseScheme base-laws key plaintext output kb pb acc) acc))
     (keys.made-key-good baseScheme base-laws key plaintext output kb pb acc)
 
 -- What is lent to opening: with a good key and the right lengths it is accepted, and so is what it then writes.

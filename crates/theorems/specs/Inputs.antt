@@ -7,7 +7,15 @@ use borrow.Author.Tests.{eqb-true, ltb-true, leb-true, eq-eqb, lt-ltb, le-leb}
 use lib.ListN.{length}
 use Rattle.slices.specs.Bytes.{Bytes, Sized}
 use Rattle.banquet.specs.declared.Answer.the-variants.{Accepted}
-use Rattle.banquet.specs.Shape.{workLength, publicKeyLength, firstChallengeLength, openingLength, messageLimit, rootSeedsLength, signatureLength}
+use Rattle.banquet.specs.Shape.{
+  workLength,
+  publicKeyLength,
+  firstChallengeLength,
+  openingLength,
+  messageLimit,
+  rootSeedsLength,
+  signatureLength,
+}
 use Rattle.banquet.specs.Scheme.{Scheme, GoodKey, Wide}
 use Rattle.banquet.specs.Key.{frontOf, ciphertextOf}
 use Rattle.banquet.specs.Calls.{openAnswer, signAnswer}

@@ -259,6 +259,7 @@ module _ (𝓢 : Scheme) (L : Laws 𝓢) (key publicKey salt root firstBytes : L
         size = opening-size;
         work-size = w;
         transcript-holds = subst₃ (λ (s : List ℕ) (h : ℕ) (c : List ℕ). TranscriptHolds 𝓢 publicKey s h (shownSeed 𝓢 s h c))
-            (sym (take-at t (hidden ∷ q) _ transcript-size)) (sym (getD-at t hidden q 0 _ transcript-size)) (sym (drop-past t hidden q _ transcript-size))
+            (sym (take-at t (hidden ∷ q) _ transcript-size)) (sym (getD-at t hidden q 0 _ transcript-size))
+            (sym (drop-past t hidden q _ transcript-size))
             holds;
       })

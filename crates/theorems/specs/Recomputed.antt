@@ -74,7 +74,8 @@ module _ (𝓢 : Scheme) (L : Laws 𝓢) where
   pub completedOutput-right : (f g : ℕ → List ℕ) (h : ℕ) (whole : List ℕ) → h < parties → ((k : ℕ) → k < parties → Sized 16 (f k))
       → ((k : ℕ) → k < parties → k ≢ h → g k ≡ f k) → sumXor parties f ≡ whole → (i : ℕ) → i < parties → completedOutput 𝓢 h whole g i ≡ f i
   unfolding completedOutput
-  completedOutput-right f g h whole l s e w i m = at-cases (λ v. v ≡ f i) i h _ (g i) (λ p. ap₂ zipXor (sym w) refl ∙ rest ∙ ap f (sym p)) (λ n. e i m n)
+  completedOutput-right f g h whole l s e w i m =
+      at-cases (λ v. v ≡ f i) i h _ (g i) (λ p. ap₂ zipXor (sym w) refl ∙ rest ∙ ap f (sym p)) (λ n. e i m n)
     where
       o : ℕ → List ℕ
       o k = at k h [] (g k)
@@ -92,7 +93,8 @@ module _ (𝓢 : Scheme) (L : Laws 𝓢) where
       rest : zipXor (sumXor parties f) (sumXor parties o) ≡ f h
       rest =
           ext-getD 0 _ _
-          (length-zip-sum 16 parties (sumXor parties f) o (sized-sum parties (L .some-party) s .size) (λ k q. short k q (ℕ-discrete k h)) ∙ sym (s h l .size))
+          (length-zip-sum 16 parties (sumXor parties f) o (sized-sum parties (L .some-party) s .size) (λ k q. short k q (ℕ-discrete k h))
+          ∙ sym (s h l .size))
           (λ n q. byte n)
         where
           short : (k : ℕ) → k < parties → Dec (k ≡ h) → length (o k) ≤ 16

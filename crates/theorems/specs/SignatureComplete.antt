@@ -16,7 +16,25 @@ use Rattle.banquet.specs.Shape.{workLength, headSizes, frameSizes, signatureLen
 use Rattle.banquet.specs.Scheme.{Scheme, wideOps, wideMul}
 use Rattle.banquet.specs.Hash.{firstHash, thirdHash}
 use Rattle.banquet.specs.Key.{frontOf, ciphertextOf}
-use Rattle.banquet.specs.Signature.{signerH1, signerH2, signerH3Part, signerH3, signerFrame, signature, frameOf, headPart, framePart, frameC, frameA, frameB, frameH1Part, frameH3Part, ownH2, recomputedH1, recomputedH3}
+use Rattle.banquet.specs.Signature.{
+  signerH1,
+  signerH2,
+  signerH3Part,
+  signerH3,
+  signerFrame,
+  signature,
+  frameOf,
+  headPart,
+  framePart,
+  frameC,
+  frameA,
+  frameB,
+  frameH1Part,
+  frameH3Part,
+  ownH2,
+  recomputedH1,
+  recomputedH3,
+}
 use Rattle.banquet.specs.Calls.{verifyAnswer}
 use Rattle.theorems.specs.Laws.{Laws}
 use Rattle.theorems.specs.SignatureFrame as one
@@ -59,18 +77,23 @@ module _ (𝓢 : Scheme) (L : Laws 𝓢) (key publicKey message salt seeds : Lis
 
     h1-is : recomputedH1 𝓢 publicKey message salt h1 h3 frames ≡ h1
     unfolding signerH1
-    h1-is = firstHash-cong 𝓢 L publicKey message salt (λ e l. ap (frameH1Part 𝓢 publicKey salt h3 e) (are e l) ∙ one.first-is 𝓢 L key publicKey message salt seeds input e)
+    h1-is =
+        firstHash-cong 𝓢 L publicKey message salt
+        (λ e l. ap (frameH1Part 𝓢 publicKey salt h3 e) (are e l) ∙ one.first-is 𝓢 L key publicKey message salt seeds input e)
 
     h3-is : recomputedH3 𝓢 publicKey message salt h1 h3 frames ≡ h3
     unfolding signerH3
     h3-is =
-        thirdHash-cong 𝓢 L h2′ (λ e l. ap₂ (λ (h r : List ℕ). frameH3Part 𝓢 publicKey salt h3 e r h1 h) h2-is (are e l) ∙ one.third-is 𝓢 L key publicKey message salt seeds input e)
+        thirdHash-cong 𝓢 L h2′
+        (λ e l.
+        ap₂ (λ (h r : List ℕ). frameH3Part 𝓢 publicKey salt h3 e r h1 h) h2-is (are e l) ∙ one.third-is 𝓢 L key publicKey message salt seeds input e)
         ∙ ap (λ (h : List ℕ). thirdHash 𝓢 h (signerH3Part 𝓢 key publicKey message salt seeds)) h2-is
 
     checks : FramesHold 𝓢 publicKey message salt h1 h3 frames
     checks = record {
       product = λ e l.
-          subst (λ (r : List ℕ). frameC 𝓢 r ≡ sum (wideOps 𝓢) m1 (λ j. wideMul 𝓢 (frameA 𝓢 r j) (frameB 𝓢 r j))) (sym (are e l)) (one.holds 𝓢 L key publicKey message salt seeds input e);
+          subst (λ (r : List ℕ). frameC 𝓢 r ≡ sum (wideOps 𝓢) m1 (λ j. wideMul 𝓢 (frameA 𝓢 r j) (frameB 𝓢 r j))) (sym (are e l))
+          (one.holds 𝓢 L key publicKey message salt seeds input e);
       first = h1-is;
       third = h3-is;
     }
@@ -100,7 +123,8 @@ module _ (𝓢 : Scheme) (L : Laws 𝓢) (key publicKey message salt seeds : Lis
   unfolding signature
   signature-size =
       length-append (layout head) (rows frame executions)
-      ∙ ap₂ _+_ (length-layout (headSizes (𝓢 .shape)) head head-sizes) (length-rows (total (frameSizes (𝓢 .shape))) frame executions (λ e l. one.frame-size 𝓢 L key publicKey message salt seeds input e))
+      ∙ ap₂ _+_ (length-layout (headSizes (𝓢 .shape)) head head-sizes)
+      (length-rows (total (frameSizes (𝓢 .shape))) frame executions (λ e l. one.frame-size 𝓢 L key publicKey message salt seeds input e))
 
   frames-are : (e : ℕ) → e < executions → frameOf 𝓢 s e ≡ frame e
   unfolding frameOf signature
@@ -120,6 +144,7 @@ module _ (𝓢 : Scheme) (L : Laws 𝓢) (key publicKey message salt seeds : Lis
         message-size = input .message-size;
         size = signature-size;
         work-size = w;
-        frames-hold = subst₃ (λ (a b c : List ℕ). FramesHold 𝓢 publicKey message a b c (frameOf 𝓢 s)) (sym (head-is 0)) (sym (head-is 1)) (sym (head-is 2))
+        frames-hold = subst₃ (λ (a b c : List ℕ). FramesHold 𝓢 publicKey message a b c (frameOf 𝓢 s)) (sym (head-is 0)) (sym (head-is 1))
+            (sym (head-is 2))
             (checks (frameOf 𝓢 s) frames-are);
       })

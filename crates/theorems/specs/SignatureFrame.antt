@@ -29,7 +29,35 @@ use Rattle.banquet.specs.Tree.{siblingSeeds, shownLeaves, seedAt}
 use Rattle.banquet.specs.Key.{frontOf, ciphertextOf}
 use Rattle.banquet.specs.Execution.{Committed, Challenge, challenge, outputShare, openedC, openedA, openedB}
 use Rattle.banquet.specs.Signer.{productOffsets}
-use Rattle.banquet.specs.Signature.{signerCommitted, signerSeed, signerTape, signerH1Part, signerH1, signerOffsets, signerH2, signerChallenge, signerC, signerA, signerB, signerH3Part, signerH3, signerHidden, signerFrame, completed, completedOutput, framePart, frameC, frameA, frameB, frameCommitted, frameChallenge, frameSeed, frameTape, frameH1Part, frameH3Part}
+use Rattle.banquet.specs.Signature.{
+  signerCommitted,
+  signerSeed,
+  signerTape,
+  signerH1Part,
+  signerH1,
+  signerOffsets,
+  signerH2,
+  signerChallenge,
+  signerC,
+  signerA,
+  signerB,
+  signerH3Part,
+  signerH3,
+  signerHidden,
+  signerFrame,
+  completed,
+  completedOutput,
+  framePart,
+  frameC,
+  frameA,
+  frameB,
+  frameCommitted,
+  frameChallenge,
+  frameSeed,
+  frameTape,
+  frameH1Part,
+  frameH3Part,
+}
 use Rattle.theorems.specs.Laws.{Laws}
 use Rattle.theorems.specs.Inputs.{SignInput}
 use Rattle.theorems.specs.Keys.{sized-front}
@@ -38,7 +66,15 @@ use Rattle.theorems.specs.Shares.{IsTape, hashed-tape, Fits, sized-outpu
 use Rattle.theorems.specs.Seeds.{length-siblingSeeds, shown-siblings}
 use Rattle.theorems.specs.Opened.{WideChallenge, wide-C, wide-A, wide-B}
 use Rattle.theorems.specs.Honest.{honest-fits, honest-outputs, honest-product, honest-wide}
-use Rattle.theorems.specs.Recomputed.{completed-right, completedOutput-right, h1Part-cong, h3Part-cong, firstChallenge-bytes, wide-secondChallenge, hidden-lt}
+use Rattle.theorems.specs.Recomputed.{
+  completed-right,
+  completedOutput-right,
+  h1Part-cong,
+  h3Part-cong,
+  firstChallenge-bytes,
+  wide-secondChallenge,
+  hidden-lt,
+}
 
 module _ (𝓢 : Scheme) (L : Laws 𝓢) (key publicKey message salt seeds : List ℕ) (input : SignInput 𝓢 key publicKey message salt seeds) where
   open Shape (𝓢 .shape) using (parties, executions, depth, wide, m1, m2, front)
@@ -173,21 +209,25 @@ module _ (𝓢 : Scheme) (L : Laws 𝓢) (key publicKey message salt seeds : Lis
     first-is = h1Part-cong 𝓢 L commitments outputs (is 2) (is 3)
       where
         commitments : (i : ℕ) → i < parties
-            → at i hidden (framePart 𝓢 (frame e) 1) (commitment 𝓢 salt e i (frameSeed 𝓢 publicKey salt h3 e (frame e) i)) ≡ commitment 𝓢 salt e i (seed i)
+            → at i hidden (framePart 𝓢 (frame e) 1) (commitment 𝓢 salt e i (frameSeed 𝓢 publicKey salt h3 e (frame e) i))
+            ≡ commitment 𝓢 salt e i (seed i)
         commitments i l =
             at-cases (λ c. c ≡ commitment 𝓢 salt e i (seed i)) i hidden _ _ (λ p. is 1 ∙ ap (λ k. commitment 𝓢 salt e k (seed k)) (sym p))
             (λ n. ap (commitment 𝓢 salt e i) (shown i l n))
 
         outputs : (i : ℕ) → i < parties
-            → completedOutput 𝓢 hidden ct (λ k. outputShare 𝓢 (frameCommitted 𝓢 publicKey salt h3 e (frame e)) k (frameTape 𝓢 publicKey salt h3 e (frame e) k)) i
+            → completedOutput 𝓢 hidden ct
+            (λ k. outputShare 𝓢 (frameCommitted 𝓢 publicKey salt h3 e (frame e)) k (frameTape 𝓢 publicKey salt h3 e (frame e) k)) i
             ≡ outputShare 𝓢 x i (tapes i)
         outputs =
-            completedOutput-right 𝓢 L (λ k. outputShare 𝓢 x k (tapes k)) _ hidden ct (hidden-lt 𝓢 L h3 e) (λ k m. sized-outputShare 𝓢 L x fits k (ts k m))
+            completedOutput-right 𝓢 L (λ k. outputShare 𝓢 x k (tapes k)) _ hidden ct (hidden-lt 𝓢 L h3 e)
+            (λ k m. sized-outputShare 𝓢 L x fits k (ts k m))
             (λ k m n. ap₂ (λ c t. outputShare 𝓢 c k t) is-x (shown-tape k m n))
             (honest-outputs 𝓢 L f key ct tapes ts sf (input .key-sized) (input .good))
 
     -- Shares of any kind: the hidden one is completed from the sum.
-    completes : (g : Committed → ℕ → List ℕ → Challenge → ℕ) (whole : ℕ) → whole ≡ sum (wideOps 𝓢) parties (λ k. g x k (tapes k) d) → (i : ℕ) → i < parties
+    completes : (g : Committed → ℕ → List ℕ → Challenge → ℕ) (whole : ℕ) → whole ≡ sum (wideOps 𝓢) parties (λ k. g x k (tapes k) d)
+        → (i : ℕ) → i < parties
         → completed 𝓢 hidden whole (λ k. g (frameCommitted 𝓢 publicKey salt h3 e (frame e)) k (frameTape 𝓢 publicKey salt h3 e (frame e) k)
         (frameChallenge 𝓢 publicKey salt h3 e (frame e) h1 h2)) i
         ≡ g x i (tapes i) d

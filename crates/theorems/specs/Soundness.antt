@@ -23,7 +23,6 @@ use Rattle.poly.specs.Balance.{AllOne, OneChallenge, FewRoots, valuesS, valuesT
 use Rattle.poly.specs.Parties.{Execution, execution-check, totals}
 use Rattle.circuit.specs.Sound.{products-good}
 use Rattle.banquet.specs.declared.Shape.{Shape}
-use Rattle.banquet.specs.declared.Answer.the-variants.{Accepted}
 use Rattle.banquet.specs.Shape.{sboxes, jOf, kOf, sboxAt, sboxAt-jk, transcriptSizes, publicKeyLength}
 use Rattle.banquet.specs.Scheme.{Scheme, GoodKey, wideOps, wideMul, Wide, lifted}
 use Rattle.banquet.specs.Execution.{
@@ -41,11 +40,33 @@ use Rattle.banquet.specs.Execution.{
 }
 use Rattle.banquet.specs.Key.{ciphertextOf}
 use Rattle.banquet.specs.Opening.{transcriptOf, hiddenOf, saltOf, executionOf, challengeOf, tapeUnder, cOf, aOf, bOf, committedOf}
-use Rattle.banquet.specs.Calls.{verifyOpeningAnswer}
-use Rattle.banquet.specs.Extraction.{givenKey, givenInverses, givenInputs, givenInput, givenS, givenT, givenInverse, givenProduct, GoodOrLucky, seedsOf, Demand3}
+use Rattle.banquet.specs.Extraction.{
+  givenKey,
+  givenInverses,
+  givenInputs,
+  givenInput,
+  givenS,
+  givenT,
+  givenInverse,
+  givenProduct,
+  GoodOrLucky,
+  seedsOf,
+  Demand3,
+}
 use Rattle.theorems.specs.Laws.{Laws}
 use Rattle.theorems.specs.Wide.{wide-field, wide-points, wide-number}
-use Rattle.theorems.specs.Shares.{IsTape, hashed-tape, tape-bytes, Fits, sized-givenKey, sized-givenInverses, sum-inputs, sum-outputs, total-inputs, total-inverses}
+use Rattle.theorems.specs.Shares.{
+  IsTape,
+  hashed-tape,
+  tape-bytes,
+  Fits,
+  sized-givenKey,
+  sized-givenInverses,
+  sum-inputs,
+  sum-outputs,
+  total-inputs,
+  total-inverses,
+}
 use Rattle.theorems.specs.Keys.{sized-front}
 use Rattle.banquet.specs.OpeningChecks.{PartyHolds, TranscriptHolds, OpeningHolds, opening-holds}
 
@@ -88,7 +109,8 @@ module _ (𝓢 : Scheme) (L : Laws 𝓢) where
     product-one : (l : ℕ) → l < sboxes (𝓢 .shape) → mul8 (getD (givenInputs 𝓢 x tapes) l 0) (getD (givenInverses 𝓢 x tapes) l 0) ≡ 1
     product-one =
         by-sbox (λ l. mul8 (getD (givenInputs 𝓢 x tapes) l 0) (getD (givenInverses 𝓢 x tapes) l 0) ≡ 1)
-        (λ j k hj hk. byte-one (getD (givenInputs 𝓢 x tapes) (sboxAt (𝓢 .shape) j k) 0) (getD (givenInverses 𝓢 x tapes) (sboxAt (𝓢 .shape) j k) 0) (ones j k hj hk))
+        (λ j k hj hk.
+        byte-one (getD (givenInputs 𝓢 x tapes) (sboxAt (𝓢 .shape) j k) 0) (getD (givenInverses 𝓢 x tapes) (sboxAt (𝓢 .shape) j k) 0) (ones j k hj hk))
 
     key-good : GoodKey 𝓢 (x .front) ciphertext (givenKey 𝓢 x tapes)
     key-good =

@@ -16,7 +16,6 @@ use Rattle.banquet.specs.Calls.{
   signAnswer,
   sign,
   verifyAnswer,
-  verify,
   openAnswer,
   openExecution,
   verifyOpeningAnswer,

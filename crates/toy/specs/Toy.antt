@@ -1,5 +1,5 @@
 -- Toys that the kernel can compute: a hash, a circuit and small parameter sets; and the words in which the rows are told.
-use mathlib.Core.Path.{_≡_, refl}
+use mathlib.Core.Path.{_≡_}
 use mathlib.Core.Bool.{true}
 use mathlib.Core.List.{List, [], _∷_, _++_, map}
 use Prim.Native.Nat.{ℕ, zero, suc, _+_, _*_, _/_, _%_}

@@ -44,7 +44,19 @@ use Rattle.banquet.specs.Signature.{
   checkSignature,
 }
 use Rattle.banquet.specs.Calls.{publicKeyAnswer, signAnswer, verifyAnswer, openAnswer, verifyOpeningAnswer}
-use Rattle.banquet.specs.Card.{digitValue, allDigits, decoded, lineOf, lineAt, hasLength, isLine, checkLines, cardAnswer, decimalIn, printed}
+use Rattle.banquet.specs.Card.{
+  digitValue,
+  allDigits,
+  decoded,
+  lineOf,
+  lineAt,
+  hasLength,
+  isLine,
+  checkLines,
+  cardAnswer,
+  decimalIn,
+  printed,
+}
 use Rattle.toy.specs.Toy.{absorbed, squeezed, toyHash, toyInputs, toyEncrypt, toyInputShares, toyOutputShare}
 use Rattle.toy.specs.Shared.{shared}
 
@@ -64,8 +76,12 @@ unfoldable hashes : Unit {0}
 unfolding commitment firstHash secondHash thirdHash tape children firstChallenge secondChallenge hiddenParty evaluationPoint partyOf
 hashes = tt
 
+unfoldable offsets : Unit {0}
+unfolding productOffsetAt productOffsets
+offsets = tt
+
 unfoldable parties : Unit {0}
-unfolding leaves siblings shownLeaves tapePart inputShares outputShare inputAt inverseAt productAt openedC openedA openedB productOffsetAt productOffsets
+unfolding leaves siblings shownLeaves tapePart inputShares outputShare inputAt inverseAt productAt openedC openedA openedB offsets
 parties = tt
 
 unfoldable made : Unit {0}

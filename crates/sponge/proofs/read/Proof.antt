@@ -1,4 +1,4 @@
--- `sponge::read` meets its contract: either call is `slices::load`. Assumes nothing.
+-- `sponge::read` meets its contract: either call is `numbers::load`. Assumes nothing.
 use borrow.Author.Needs.{needs}
 use Rattle.sponge.proofs.read.Statement.{statement}
 use Rattle.sponge.proofs.read.Tie as tie

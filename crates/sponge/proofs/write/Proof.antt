@@ -1,4 +1,4 @@
--- `sponge::write` meets its contract: either call is `slices::store`. Assumes nothing.
+-- `sponge::write` meets its contract: either call is `numbers::store`. Assumes nothing.
 use borrow.Author.Needs.{needs}
 use Rattle.sponge.proofs.write.Statement.{statement}
 use Rattle.sponge.proofs.write.Tie as tie

@@ -1,14 +1,14 @@
--- `slices::load` meets its contract: the bytes from k on are in the number. Assumes nothing.
+-- `numbers::load` meets its contract: the bytes from k on are in the number. Assumes nothing.
 use mathlib.Core.Path.{_≡_, _∙_}
 use Prim.Native.Nat.{_≤_, _<_, _+_, _-_, _^_}
 use native.Mathlib.Omega.{arith}
 use borrow.Author.Needs.{needs}
 use Rattle.slices.specs.Lists.{part}
 use Rattle.slices.specs.Bytes.{bytes-of}
 use Rattle.slices.specs.Numbers.{number}
-use Rattle.slices.proofs.Numbers.{seven, next-byte}
-use Rattle.slices.proofs.load.Statement.{statement}
-use Rattle.slices.proofs.load.Tie as tie
+use Rattle.numbers.proofs.Turns.{seven, next-byte}
+use Rattle.numbers.proofs.load.Statement.{statement}
+use Rattle.numbers.proofs.load.Tie as tie
 
 abbrev Inv-loop : tie.InvT-loop
 Inv-loop s at w x₀ k₀ x k = (k ≤ w) × (x ≡ number (part (at + k) (w - k) s))
