@@ -1,12 +1,13 @@
--- `pairs` element by element, as a loop makes it. Assumes nothing.
-use mathlib.Core.Path.{_≡_, refl, ap, _∙_}
+-- `pairs` and `encoded` element by element, as a loop makes them. Assumes nothing.
+use mathlib.Core.Path.{_≡_, refl, ap, ap₂, _∙_}
 use mathlib.Core.List.{List, [], _∷_}
-use Prim.Native.Nat.{ℕ, zero, suc, _+_, _*_}
+use Prim.Native.Nat.{ℕ, zero, suc, _+_, _*_, _/_, _%_, _<_}
 use native.Mathlib.Omega.{arith}
 use lib.ListN.{length, getD}
 use Rattle.slices.specs.Lists.{tab}
 use Rattle.slices.specs.Tab.{tab-cong}
-use Rattle.hex.specs.Hex.{pair, pairs}
+use Rattle.slices.specs.Bytes.{Bytes, tail-bytes}
+use Rattle.hex.specs.Hex.{pair, pairs, digitOf, half, encoded}
 
 -- the byte that the digits at 2 * i stand for
 abbrev pub pairAt : List ℕ → ℕ → ℕ
@@ -26,3 +27,25 @@ tab-pairs (suc n) [] h = absurd (omega arith)
 tab-pairs (suc n) (a ∷ []) h = absurd (omega arith)
 tab-pairs (suc n) (a ∷ b ∷ s) h =
     ap (pair a b ∷_) (tab-cong n (λ i l. pair-next a b s i) ∙ tab-pairs n s (omega arith))
+
+-- digit i of the text that bytes are written as
+abbrev pub digitAt : List ℕ → ℕ → ℕ
+digitAt s i = digitOf (half (getD s (i / 2) 0) (i % 2) % 16)
+
+digit-next : (b : ℕ) (s : List ℕ) (i : ℕ) → digitAt (b ∷ s) (suc (suc i)) ≡ digitAt s i
+digit-next b s i =
+    let e : suc (suc i) / 2 ≡ suc (i / 2) = omega arith in
+    let f : suc (suc i) % 2 ≡ i % 2 = omega arith in
+    rw (e, f)
+
+pub tab-encoded : (s : List ℕ) → Bytes s → tab (digitAt s) (2 * length s) ≡ encoded s
+unfolding encoded half
+tab-encoded [] h = refl
+tab-encoded (b ∷ s) h =
+    let l : b < 256 = h .lt 0 in
+    let two : 2 * suc (length s) ≡ suc (suc (2 * length s)) = omega arith in
+    let high : b / 16 % 16 ≡ b / 16 = omega arith in
+    let low : b % 16 % 16 ≡ b % 16 = omega arith in
+    rw two
+    (ap₂ _∷_ (ap digitOf high)
+    (ap₂ _∷_ (ap digitOf low) (tab-cong (2 * length s) (λ i l. digit-next b s i) ∙ tab-encoded s (tail-bytes h))))

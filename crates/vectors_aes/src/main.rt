@@ -4,7 +4,24 @@
 use libc::STDIN_FILENO;
 use libc::STDOUT_FILENO;
 ghost use mathlib.Core.Path.{_≡_};
+ghost use Prim.Native.Nat.{_*_, _≤_};
 ghost use lib.ListN.{length};
+
+fn write(s: &[u8], text: &mut [u8])
+    requires { ⌜ length (now text) ≡ 2 * length (now s) ⌝ }
+{
+    hex::encode(s, text);
+    io::write_all(STDOUT_FILENO, text);
+}
+
+// Two digits a byte.
+fn print(s: &[u8])
+    requires { ⌜ length (now s) ≤ 16 ⌝ }
+{
+    let mut text = [0u8; 32];
+    let end = 2 * s.len();
+    write(s, &mut text[0..end]);
+}
 
 fn encrypt(line: &[u8], inputs: &mut [u8]) -> [u8; 16]
     requires { ⌜ length (now line) ≡ 66 ⌝ }
@@ -24,7 +41,7 @@ fn answer(line: &[u8])
     let ciphertext = encrypt(line, &mut inputs);
     io::write_all(STDOUT_FILENO, &line[0..65]);
     io::write_all(STDOUT_FILENO, b" ");
-    print::hex(&ciphertext);
+    print(&ciphertext);
     io::write_all(STDOUT_FILENO, b" ");
     io::print_decimal(STDOUT_FILENO, cipher::first_zero(&inputs) as u64);
     io::write_all(STDOUT_FILENO, b"\n");
@@ -36,9 +53,9 @@ fn print_rounds(inputs: &[u8])
     for n in 0..10 {
         let word = n * 4;
         let state = 40 + n * 16;
-        print::hex(&inputs[word..word + 4]);
+        print(&inputs[word..word + 4]);
         io::write_all(STDOUT_FILENO, b" ");
-        print::hex(&inputs[state..state + 16]);
+        print(&inputs[state..state + 16]);
         io::write_all(STDOUT_FILENO, b"\n");
     }
 }

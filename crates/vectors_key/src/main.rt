@@ -5,8 +5,24 @@ use banquet::Verdict;
 use libc::STDIN_FILENO;
 use libc::STDOUT_FILENO;
 ghost use mathlib.Core.Path.{_≡_};
-ghost use Prim.Native.Nat.{_≤_};
+ghost use Prim.Native.Nat.{_*_, _≤_};
 ghost use lib.ListN.{length};
+
+fn write(s: &[u8], text: &mut [u8])
+    requires { ⌜ length (now text) ≡ 2 * length (now s) ⌝ }
+{
+    hex::encode(s, text);
+    io::write_all(STDOUT_FILENO, text);
+}
+
+// Two digits a byte.
+fn print(s: &[u8])
+    requires { ⌜ length (now s) ≤ 40 ⌝ }
+{
+    let mut text = [0u8; 80];
+    let end = 2 * s.len();
+    write(s, &mut text[0..end]);
+}
 
 // The number of two decimal digits, or the most where it is less.
 fn size(tens: u8, ones: u8, most: usize) -> usize
@@ -44,7 +60,7 @@ fn answer(line: &[u8])
     io::write_all(STDOUT_FILENO, b" ");
     io::print_decimal(STDOUT_FILENO, verdict.place as u64);
     io::write_all(STDOUT_FILENO, b" ");
-    print::hex(&output);
+    print(&output);
     io::write_all(STDOUT_FILENO, b"\n");
 }
 

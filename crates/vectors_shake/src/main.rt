@@ -1,7 +1,8 @@
 // Runs SHAKE128 on messages of several lengths, absorbed and squeezed in pieces. A line has the message's length, that of the pieces, that of
 // the output, and the output in hex. At the end stands a published example. The file stdout is written by vectors/shake.py.
 use libc::STDOUT_FILENO;
-ghost use Prim.Native.Nat.{_≤_, _<_};
+ghost use mathlib.Core.Path.{_≡_};
+ghost use Prim.Native.Nat.{_*_, _<_, _≤_};
 ghost use lib.ListN.{length};
 
 // The message: byte i is 7 (i + i / 256) modulo 256.
@@ -9,6 +10,22 @@ fn fill(input: &mut [u8]) {
     for i in 0..input.len() {
         input[i] = ((i % 256 + i / 256 % 256) * 7 % 256) as u8;
     }
+}
+
+fn write(s: &[u8], text: &mut [u8])
+    requires { ⌜ length (now text) ≡ 2 * length (now s) ⌝ }
+{
+    hex::encode(s, text);
+    io::write_all(STDOUT_FILENO, text);
+}
+
+// Two digits a byte.
+fn print(s: &[u8])
+    requires { ⌜ length (now s) ≤ 700 ⌝ }
+{
+    let mut text = [0u8; 1400];
+    let end = 2 * s.len();
+    write(s, &mut text[0..end]);
 }
 
 // n in decimal, and a space.
@@ -33,9 +50,11 @@ fn pieces(src: &[u8], piece: usize) -> sponge::Sponge
 }
 
 // The next bytes of output, in hex.
-fn squeeze_hex(s: sponge::Sponge, out: &mut [u8]) -> sponge::Sponge {
+fn squeeze_hex(s: sponge::Sponge, out: &mut [u8]) -> sponge::Sponge
+    requires { ⌜ length (now out) ≤ 700 ⌝ }
+{
     let t = sponge::squeeze(s, out);
-    print::hex(out);
+    print(out);
     t
 }
 
@@ -63,7 +82,7 @@ fn show_example() {
     let input = [0xa3u8; 200];
     let mut out = [0u8; 512];
     sponge::digest(&input, &mut out);
-    print::hex(&out);
+    print(&out);
     io::write_all(STDOUT_FILENO, b"\n");
 }
 
