@@ -1,9 +1,10 @@
 #!/usr/bin/env python3
 """The scheme of document 01, for any parameter set, hash and circuit, in plain steps. vectors/toy.py uses it.
 
-Written from the document, and not from the definitions: its names and its order ("seal" is what the definitions call a signature). Where the
-document leaves a choice: h3 takes each party's c, a and b before the next party's; a tape has s and t of one j beside each other; number 13 is
-looked for in all parties before 14; an odd count of digits is a bad line; a text that ends behind line n has a bad line n + 1.
+Written from the document and not copied from the definitions, by someone who had read them before: its names and its order are the document's
+("seal" is what the definitions call a signature). Where the document leaves a choice: h3 takes each party's c, a and b before the next party's; a
+tape has s and t of one j beside each other; number 13 is looked for in all parties before 14; an odd count of digits is a bad line; a text that
+ends behind line n has a bad line n + 1.
 """
 import functools
 import operator
