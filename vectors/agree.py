@@ -3,7 +3,7 @@
 
 ORACLE is the directory of oracle.py, an implementation of document 01 in plain Python that was written apart from this repository. On document 01's
 own set both make a public key, a signature and an opening, and judge these and altered ones. AES on shares, the product of wide elements and the
-table of inverses are ORACLE's on both sides, for speed; crates vectors_aes and vectors_field have compared ours with others.
+table of inverses are ORACLE's on both sides, for speed, so they are not compared here.
 """
 import functools
 import hashlib
