@@ -21,7 +21,7 @@ Row = List ℕ × List ℕ
 -- whatever salt, execution and root seed are
 module _ (salt : List ℕ) (e : ℕ) (root : List ℕ) where
   abbrev siblingNodes : ℕ → List ℕ
-  siblingNodes hidden = nodeNumbers (siblings baseScheme salt e (base .depth) 0 root hidden)
+  siblingNodes hidden = nodeNumbers (siblings (baseScheme .hash) salt e (base .depth) 0 root hidden)
 
   abbrev pub starred : List Row
   starred =

@@ -19,6 +19,10 @@ evaluationPoint m2 x = choose (ltb x m2) (x + m2) x
 unfoldable pub partyOf : ℕ → ℕ → ℕ
 partyOf parties x = x % parties
 
+-- "5: salt, e, node v, seed; gives the seeds of nodes 2v+1 and 2v+2."
+unfoldable pub children : (List ℕ → ℕ → List ℕ) → List ℕ → ℕ → ℕ → List ℕ → List ℕ
+children hash salt e v seed = hash (5 ∷ (salt ++ e ∷ (bytesOf 4 v ++ seed))) 32
+
 module _ (𝓢 : Scheme) where
   open Scheme 𝓢 using (hash)
   open Shape (𝓢 .shape) using (parties, executions, wide, m2)
@@ -43,10 +47,6 @@ module _ (𝓢 : Scheme) where
   -- "4: salt, e, i, seed; gives a 380-byte tape"
   unfoldable pub tape : List ℕ → ℕ → ℕ → List ℕ → List ℕ
   tape salt e i seed = hash (4 ∷ (salt ++ e ∷ i ∷ seed)) (total (tapeSizes (𝓢 .shape)))
-
-  -- "5: salt, e, node v, seed; gives the seeds of nodes 2v+1 and 2v+2."
-  unfoldable pub children : List ℕ → ℕ → ℕ → List ℕ → List ℕ
-  children salt e v seed = hash (5 ∷ (salt ++ e ∷ (bytesOf 4 v ++ seed))) 32
 
   -- ---- "Every number drawn from 6, 7 or 8 takes four bytes, low byte first, in execution order."
 

@@ -83,7 +83,7 @@ module _ (𝓢 : Scheme) where
 
     -- "An opening shows every party that it doesn't hide, under the seed that its sibling seeds expand to."
     abbrev pub shownSeed : ℕ → List ℕ → ℕ → List ℕ
-    shownSeed hidden seeds i = seedAt (shownLeaves 𝓢 saltOf executionOf depth 0 seeds hidden) i
+    shownSeed hidden seeds i = seedAt (shownLeaves (𝓢 .hash) saltOf executionOf depth 0 seeds hidden) i
 
   -- ---- the check
 
@@ -132,16 +132,21 @@ module _ (𝓢 : Scheme) where
     abbrev pub productHolds : Bool
     productHolds = eqb sumC (sum (wideOps 𝓢) m1 (λ j. wideMul 𝓢 (sumA j) (sumB j)))
 
-    -- Numbers 8, 9, 10, 13, 14 and 15.
+    -- Numbers 13, 14 and 15, given the parties' seeds.
+    unfoldable pub checkParties : ℕ → (ℕ → List ℕ) → Answer
+    checkParties hidden seedOf =
+        each parties 0 (λ i. eqb i hidden || commitmentHolds i (seedOf i)) CommitmentDiffers
+        (each parties 0 (λ i. eqb i hidden || sharesHold i (seedOf i)) ShareDiffers
+        (require outputsHold (ShareDiffers parties)
+        (require productHolds (ProductDiffers (executionOf transcript)) Accepted)))
+
+    -- Numbers 8, 9 and 10, and then those.
     unfoldable pub checkOpening : ℕ → List ℕ → Answer
     checkOpening hidden seeds =
         require (ltb (executionOf transcript) executions) ExecutionRange
         (require (ltb hidden parties) HiddenPartyRange
         (require (leb m2 (secondOf transcript)) SecondChallengeRange
-        (each parties 0 (λ i. eqb i hidden || commitmentHolds i (shownSeed transcript hidden seeds i)) CommitmentDiffers
-        (each parties 0 (λ i. eqb i hidden || sharesHold i (shownSeed transcript hidden seeds i)) ShareDiffers
-        (require outputsHold (ShareDiffers parties)
-        (require productHolds (ProductDiffers (executionOf transcript)) Accepted))))))
+        (checkParties hidden (shownSeed transcript hidden seeds))))
 
   -- ---- how an opening is made
 
@@ -169,4 +174,4 @@ module _ (𝓢 : Scheme) where
         ∷ rows (λ i. numbers wide m1 (openedB 𝓢 x i (tapes i) d)) parties ∷ [])
 
     unfoldable pub opening : ℕ → List ℕ
-    opening hidden = transcript ++ hidden ∷ siblingSeeds 𝓢 salt e depth 0 root hidden
+    opening hidden = transcript ++ hidden ∷ siblingSeeds (𝓢 .hash) salt e depth 0 root hidden

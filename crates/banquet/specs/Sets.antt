@@ -38,8 +38,11 @@ aesCircuit = record {
 }
 
 -- "AES-128 is FIPS 197, SHAKE128 is FIPS 202."
+abbrev pub aesScheme : Shape → Scheme
+aesScheme S = record { shape = S; hash = shake128; circuit = aesCircuit }
+
 abbrev pub baseScheme : Scheme
-baseScheme = record { shape = base; hash = shake128; circuit = aesCircuit }
+baseScheme = aesScheme base
 
 -- ---- document 02
 
@@ -48,7 +51,7 @@ abbrev pub short : Shape
 short = record { parties = 107; depth = 7; executions = 24; wide = 6; low = low48; y = y48; m1 = 10; m2 = 20; front = 16 }
 
 abbrev pub shortScheme : Scheme
-shortScheme = record { shape = short; hash = shake128; circuit = aesCircuit }
+shortScheme = aesScheme short
 
 -- slip 14: "There are 160 S-boxes", "m1 = 8", "m2 = 20"; AES key and x stand before the ciphertext
 abbrev pub scheduleFree : Shape

@@ -115,7 +115,7 @@ module _ (𝓢 : Scheme) where
     unfoldable pub signerFrame : ℕ → List ℕ
     signerFrame e =
         layout
-        (siblingSeeds 𝓢 salt e depth 0 (rootOf e) (signerHidden e) ∷ commitment 𝓢 salt e (signerHidden e) (signerSeed e (signerHidden e))
+        (siblingSeeds (𝓢 .hash) salt e depth 0 (rootOf e) (signerHidden e) ∷ commitment 𝓢 salt e (signerHidden e) (signerSeed e (signerHidden e))
         ∷ signerCommitted e .keyOffset ∷ signerCommitted e .inverseOffsets ∷ signerOffsets e
         ∷ bytesOf wide (signerC e) ∷ numbers wide m1 (signerA e) ∷ numbers wide m1 (signerB e) ∷ [])
 
@@ -175,7 +175,7 @@ module _ (𝓢 : Scheme) where
     }
 
     abbrev pub frameSeed : ℕ → List ℕ
-    frameSeed i = seedAt (shownLeaves 𝓢 salt e depth 0 (framePart frame 0) frameHidden) i
+    frameSeed i = seedAt (shownLeaves (𝓢 .hash) salt e depth 0 (framePart frame 0) frameHidden) i
 
     abbrev pub frameTape : ℕ → List ℕ
     frameTape i = tape 𝓢 salt e i (frameSeed i)

@@ -17,7 +17,7 @@ use Rattle.banquet.specs.Execution.{Committed, through, tapeKey, tapeInv
 -- The parties' seeds and tapes.
 module _ (𝓢 : Scheme) (salt root : List ℕ) (e : ℕ) where
   abbrev pub seedOf : ℕ → List ℕ
-  seedOf i = seedAt (leaves 𝓢 salt e (𝓢 .shape .depth) 0 root) i
+  seedOf i = seedAt (leaves (𝓢 .hash) salt e (𝓢 .shape .depth) 0 root) i
 
   abbrev pub tapeOf : ℕ → List ℕ
   tapeOf i = tape 𝓢 salt e i (seedOf i)

@@ -7,7 +7,6 @@ use lib.Dec.{ltb}
 use lib.ListN.{getD, take, drop, replicate}
 use Rattle.slices.specs.Lists.{choose, tab, part}
 use Rattle.slices.specs.Layout.{layout}
-use Rattle.banquet.specs.Scheme.{Scheme}
 use Rattle.banquet.specs.Hash.{children}
 
 -- a node's number and seed
@@ -24,13 +23,13 @@ nodeSeeds nodes = layout (map (λ (n : Node). n .1) nodes)
 abbrev pub seedAt : List Node → ℕ → List ℕ
 seedAt nodes i = getD nodes i (0, []) .1
 
-module _ (𝓢 : Scheme) (salt : List ℕ) (e : ℕ) where
+module _ (hash : List ℕ → ℕ → List ℕ) (salt : List ℕ) (e : ℕ) where
   -- the seeds of nodes 2v+1 and 2v+2, from that of node v
   abbrev pub left : ℕ → List ℕ → List ℕ
-  left v seed = part 0 16 (children 𝓢 salt e v seed)
+  left v seed = part 0 16 (children hash salt e v seed)
 
   abbrev pub right : ℕ → List ℕ → List ℕ
-  right v seed = part 16 16 (children 𝓢 salt e v seed)
+  right v seed = part 16 16 (children hash salt e v seed)
 
   -- The 2^d leaves below node v: "A subtree is expanded by expanding its two halves."
   unfoldable pub leaves : ℕ → ℕ → List ℕ → List Node

@@ -217,14 +217,14 @@ module _ (𝓢 : Scheme) (L : Laws 𝓢) (key publicKey salt root firstBytes : L
   }
 
   abbrev q : List ℕ
-  q = siblingSeeds 𝓢 salt e depth 0 root hidden
+  q = siblingSeeds (𝓢 .hash) salt e depth 0 root hidden
 
   shown : (i : ℕ) → i < parties → i ≢ hidden → shownSeed 𝓢 t hidden q i ≡ seed i
   shown i l ne =
       let le = L .enough-leaves in
       let h = input .hides in
-      ap₂ (λ (s : List ℕ) (n : ℕ). seedAt (shownLeaves 𝓢 s n depth 0 q hidden) i) (is 0) is-e
-      ∙ shown-siblings 𝓢 L salt e depth 0 root hidden i (omega arith) (omega arith) ne
+      ap₂ (λ (s : List ℕ) (n : ℕ). seedAt (shownLeaves (𝓢 .hash) s n depth 0 q hidden) i) (is 0) is-e
+      ∙ shown-siblings (𝓢 .hash) (L .hash-sized) salt e depth 0 root hidden i (omega arith) (omega arith) ne
 
   holds : TranscriptHolds 𝓢 publicKey t hidden (shownSeed 𝓢 t hidden q)
   holds = record {
@@ -246,7 +246,7 @@ module _ (𝓢 : Scheme) (L : Laws 𝓢) (key publicKey salt root firstBytes : L
   pub opening-size : length (opening 𝓢 key publicKey salt root firstBytes e R hidden) ≡ openingLength (𝓢 .shape)
   unfolding opening
   opening-size =
-      length-append t (hidden ∷ q) ∙ ap₂ _+_ transcript-size (omega (arith, length-siblingSeeds 𝓢 L salt e depth 0 root hidden))
+      length-append t (hidden ∷ q) ∙ ap₂ _+_ transcript-size (omega (arith, length-siblingSeeds (𝓢 .hash) (L .hash-sized) salt e depth 0 root hidden))
 
   -- "every seal made with a good key is accepted", for openings
   pub opening-accepted : (work : List ℕ) → workLength ≤ length work

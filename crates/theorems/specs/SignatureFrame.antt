@@ -147,13 +147,13 @@ module _ (𝓢 : Scheme) (L : Laws 𝓢) (key publicKey message salt seeds : Lis
 
     abbrev fields : List (List ℕ)
     fields =
-        siblingSeeds 𝓢 salt e depth 0 (row 16 e seeds) hidden ∷ commitment 𝓢 salt e hidden (seed hidden) ∷ x .keyOffset ∷ x .inverseOffsets
+        siblingSeeds (𝓢 .hash) salt e depth 0 (row 16 e seeds) hidden ∷ commitment 𝓢 salt e hidden (seed hidden) ∷ x .keyOffset ∷ x .inverseOffsets
         ∷ signerOffsets 𝓢 key publicKey message salt seeds e ∷ bytesOf wide C ∷ numbers wide m1 A ∷ numbers wide m1 B ∷ []
 
     sizes : HasSizes (frameSizes (𝓢 .shape)) fields
     unfolding signerOffsets productOffsets
     sizes = (
-      length-siblingSeeds 𝓢 L salt e depth 0 _ hidden,
+      length-siblingSeeds (𝓢 .hash) (L .hash-sized) salt e depth 0 _ hidden,
       (
         commitment-size hidden _,
         (
@@ -198,8 +198,8 @@ module _ (𝓢 : Scheme) (L : Laws 𝓢) (key publicKey message salt seeds : Lis
     shown i l ne =
         let le = L .enough-leaves in
         let h = hidden-lt 𝓢 L h3 e in
-        ap (λ (q : List ℕ). seedAt (shownLeaves 𝓢 salt e depth 0 q hidden) i) (is 0)
-        ∙ shown-siblings 𝓢 L salt e depth 0 _ hidden i (omega arith) (omega arith) ne
+        ap (λ (q : List ℕ). seedAt (shownLeaves (𝓢 .hash) salt e depth 0 q hidden) i) (is 0)
+        ∙ shown-siblings (𝓢 .hash) (L .hash-sized) salt e depth 0 _ hidden i (omega arith) (omega arith) ne
 
     shown-tape : (i : ℕ) → i < parties → i ≢ hidden → frameTape 𝓢 publicKey salt h3 e (frame e) i ≡ tapes i
     shown-tape i l ne = ap (tape 𝓢 salt e i) (shown i l ne)

@@ -62,7 +62,7 @@ module _ (key publicKey message salt seeds : List ℕ) where
   abbrev frame : List ℕ → (ℕ → List ℕ) → (ℕ → List (List ℕ)) → ℕ → List ℕ
   frame h3 offsets t e =
       layout
-      (siblingSeeds toy salt e 2 0 (row 16 e seeds) (hiddenParty toy h3 e)
+      (siblingSeeds (toy .hash) salt e 2 0 (row 16 e seeds) (hiddenParty toy h3 e)
       ∷ commitment toy salt e (hiddenParty toy h3 e) (signerSeed toy key publicKey message salt seeds e (hiddenParty toy h3 e))
       ∷ committed e .keyOffset ∷ committed e .inverseOffsets ∷ offsets e
       ∷ bytesOf 1 (whole (t e) 0) ∷ numbers 1 1 (λ j. whole (t e) 1) ∷ numbers 1 1 (λ j. whole (t e) 2) ∷ [])
