@@ -1,0 +1,2 @@
+-- The lowest number that fails a test.
+pub mod Lowest

@@ -1,0 +1,2 @@
+-- Hashes of the parties' seeds.
+pub mod Party
