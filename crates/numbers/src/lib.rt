@@ -1,9 +1,9 @@
 // Numbers in byte slices, low byte first.
 ghost use mathlib.Core.Path.{_≡_};
-ghost use Prim.Native.Nat.{_+_, _*_, _≤_};
-ghost use lib.ListN.{length, getD};
-ghost use Rattle.slices.specs.Lists.{tab, part, put};
-ghost use Rattle.slices.specs.Numbers.{number, bytesOf, numberAt, numbers};
+ghost use Prim.Native.Nat.{_+_, _≤_};
+ghost use lib.ListN.{length};
+ghost use Rattle.slices.specs.Lists.{part, put};
+ghost use Rattle.slices.specs.Numbers.{number, bytesOf};
 
 fn wide(x: u8) -> u64
     ensures { λ r. ⌜ r ≡ x ⌝ }
@@ -33,25 +33,5 @@ pub fn store(s: &mut [u8], at: usize, w: usize, x: u64)
 {
     for i in 0..w {
         s[at + i] = ((x >> (8 * i)) % 256) as u8;
-    }
-}
-
-// The numbers of w bytes each, as many as out has room for.
-pub fn load_each(w: usize, s: &[u8], out: &mut [u64])
-    requires { ⌜ (w ≤ 8) × (length (now out) * w ≤ length (now s)) ⌝ }
-    ensures { λ _. ⌜ now (out .exit) ≡ tab (λ k. numberAt w k (now (s .entry))) (length (now (out .entry))) ⌝ }
-{
-    for k in 0..out.len() {
-        out[k] = load(s, k * w, w);
-    }
-}
-
-// The w low bytes of each number.
-pub fn store_each(w: usize, values: &[u64], out: &mut [u8])
-    requires { ⌜ (w ≤ 8) × (length (now out) ≡ length (now values) * w) ⌝ }
-    ensures { λ _. ⌜ now (out .exit) ≡ numbers w (length (now (values .entry))) (λ k. getD (now (values .entry)) k 0) ⌝ }
-{
-    for k in 0..values.len() {
-        store(out, k * w, w, values[k]);
     }
 }

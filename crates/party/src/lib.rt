@@ -20,15 +20,7 @@ pub fn hash(tag: u8, salt: &[u8], e: u8, i: u8, seed: &[u8], out: &mut [u8])
 }
 
 // The hashes of n seeds, len bytes each.
-pub fn hash_rows(
-    tag: u8,
-    salt: &[u8],
-    e: u8,
-    n: usize,
-    len: usize,
-    seeds: &[u8],
-    out: &mut [u8],
-)
+pub fn hash_rows(tag: u8, salt: &[u8], e: u8, n: usize, len: usize, seeds: &[u8], out: &mut [u8])
     requires { ⌜ (length (now salt) ≡ 32) × (n ≤ 256) × (n * 16 ≤ length (now seeds)) × (length (now out) ≡ n * len) ⌝ }
     ensures { λ _. ⌜ now (out .exit) ≡ rowsOf (λ i. partyHash tag (now (salt .entry)) e i (row 16 i (now (seeds .entry))) len) n ⌝ }
 {
@@ -42,15 +34,7 @@ pub fn hash_rows(
 }
 
 // Adds the hash of a seed to a sum as long.
-fn add_hash(
-    tag: u8,
-    salt: &[u8],
-    e: u8,
-    i: u8,
-    seed: &[u8],
-    scratch: &mut [u8],
-    sum: &mut [u8],
-)
+fn add_hash(tag: u8, salt: &[u8], e: u8, i: u8, seed: &[u8], scratch: &mut [u8], sum: &mut [u8])
     requires { ⌜ (length (now salt) ≡ 32) × (length (now seed) ≡ 16) × (length (now scratch) ≡ length (now sum)) ⌝ }
     ensures { λ _. ⌜ now (sum .exit)
         ≡ zipXor (now (sum .entry)) (partyHash tag (now (salt .entry)) e i (now (seed .entry)) (length (now (sum .entry)))) ⌝ }
