@@ -1,0 +1,2 @@
+-- Which parameter sets the engine runs.
+pub mod Valid
