@@ -4,7 +4,9 @@ ghost use mathlib.Core.Path.{_≡_};
 ghost use mathlib.Core.List.{[], _∷_};
 ghost use Prim.Native.Nat.{_*_, _^_};
 ghost use Rattle.banquet.specs.Shape.{tapeSizes, transcriptSizes};
+ghost use Rattle.slices.specs.Layout.{total};
 ghost use Rattle.sets.specs.Valid.{Valid};
+ghost use Rattle.sets.specs.Bounds.{rowSizes};
 
 pub fn tape_sizes(shape: Shape) -> [usize; 4]
     requires { ⌜ Valid shape ⌝ }
@@ -46,4 +48,13 @@ pub fn leaf_bytes(shape: Shape) -> usize
 {
     let depth = shape.depth;
     16 << depth
+}
+
+// The bytes of a party's shares of the output, of c, a and b.
+pub fn row_length(shape: Shape) -> usize
+    requires { ⌜ Valid shape ⌝ }
+    ensures { λ r. ⌜ r ≡ total (rowSizes shape) ⌝ }
+{
+    let row = shape.m1 * shape.wide;
+    16 + shape.wide + 2 * row
 }
