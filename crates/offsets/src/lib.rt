@@ -1,7 +1,16 @@
-// What the holder of the key adds: the product offsets.
+// The product offsets before the tapes' shares are added: P at the points 20 to 40. The rows there depend on key and plaintext alone, so that one
+// signature's executions share them.
 use banquet::Shape;
+ghost use mathlib.Core.Path.{_≡_};
+ghost use Prim.Native.Nat.{_+_, _*_, _^_, _<_};
+ghost use lib.ListN.{length, getD};
+ghost use lib.Bits.{bitXor};
+ghost use Rattle.slices.specs.Lists.{tab, rows as rowsOf, row};
+ghost use Rattle.slices.specs.Bytes.{Bytes};
+ghost use Rattle.sets.specs.Valid.{Valid};
+ghost use Rattle.forms.specs.Point.{near, rowAt, productValue};
 
-// For each j the rows of both bytes' j at x; Lagrange's value for the extra point.
+// For each j the rows of both at x; Lagrange's value there for the extra point.
 fn point_rows(
     shape: Shape,
     x: u64,
@@ -9,7 +18,13 @@ fn point_rows(
     inverses: &[u8],
     u: &mut [u64],
     v: &mut [u64],
-) -> u64 {
+) -> u64
+    requires { ⌜ Valid shape × (x < 2 ^ (8 * shape .wide)) × (length (now inputs) ≡ 200) × (length (now inverses) ≡ 200)
+        × (length (now u) ≡ 10) × (length (now v) ≡ 10) ⌝ }
+    ensures { λ r. ⌜ r ≡ near shape x 20 ⌝ }
+    ensures { λ _. ⌜ now (u .exit) ≡ tab (λ j. rowAt shape (now (inputs .entry)) j x) 10 ⌝ }
+    ensures { λ _. ⌜ now (v .exit) ≡ tab (λ j. rowAt shape (now (inverses .entry)) j x) 10 ⌝ }
+{
     let mut tables = [0u64; 640];
     let last = opened::tables(shape, x, &mut tables);
     opened::rows(shape, inputs, &tables, u);
@@ -25,8 +40,14 @@ pub fn true_rows(
     us: &mut [u64],
     vs: &mut [u64],
     lasts: &mut [u64],
-) {
-    for k in 0..lasts.len() {
+)
+    requires { ⌜ Valid shape × (length (now inputs) ≡ 200) × (length (now inverses) ≡ 200) × (length (now us) ≡ 210)
+        × (length (now vs) ≡ 210) × (length (now lasts) ≡ 21) ⌝ }
+    ensures { λ _. ⌜ now (us .exit) ≡ rowsOf (λ k. tab (λ j. rowAt shape (now (inputs .entry)) j (20 + k)) 10) 21 ⌝ }
+    ensures { λ _. ⌜ now (vs .exit) ≡ rowsOf (λ k. tab (λ j. rowAt shape (now (inverses .entry)) j (20 + k)) 10) 21 ⌝ }
+    ensures { λ _. ⌜ now (lasts .exit) ≡ tab (λ k. near shape (20 + k) 20) 21 ⌝ }
+{
+    for k in 0..21 {
         let a = k * 10;
         let b = a + 10;
         lasts[k] = point_rows(
@@ -40,34 +61,40 @@ pub fn true_rows(
     }
 }
 
-// P at a point.
-fn product_at(shape: Shape, first: &[u64], extra: &[u64], u: &[u64], v: &[u64], last: u64) -> u64 {
+// P at a point: the sum of S_j times T_j.
+fn product(shape: Shape, first: &[u64], extra: &[u64], u: &[u64], v: &[u64], last: u64) -> u64
+    requires { ⌜ Valid shape × (length (now first) ≡ 10) × (length (now extra) ≡ 20) × (length (now u) ≡ 10) × (length (now v) ≡ 10) ⌝ }
+    ensures { λ r. ⌜ r ≡ productValue shape (now (first .entry)) (now (extra .entry)) (now (u .entry)) (now (v .entry)) last ⌝ }
+{
     let bits = (8 * shape.wide) as u32;
-    let low = shape.low;
-    let mut sum: u64 = 0;
-    for j in 0..first.len() {
-        let s = gf::mul(bits, low, first[j], u[j]) ^ gf::mul(bits, low, extra[2 * j], last);
-        let t = v[j] ^ gf::mul(bits, low, extra[2 * j + 1], last);
-        sum = sum ^ gf::mul(bits, low, s, t);
-    }
-    sum
+    let mut s = [0u64; 10];
+    opened::values_s(shape, first, u, extra, last, &mut s);
+    let mut t = [0u64; 10];
+    opened::values_t(shape, v, extra, last, &mut t);
+    dots::dot(bits, shape.low, &t, &s)
 }
 
-// The product offsets.
-pub fn product_offsets(
+// P at the points 20 to 40, each with the number of `shares` added.
+pub fn products(
     shape: Shape,
     first: &[u64],
     extra: &[u64],
-    products: &[u64],
+    shares: &[u64],
     us: &[u64],
     vs: &[u64],
     lasts: &[u64],
     out: &mut [u64],
-) {
-    for k in 0..out.len() {
+)
+    requires { ⌜ Valid shape × (length (now first) ≡ 10) × (length (now extra) ≡ 20) × (length (now shares) ≡ 21)
+        × (length (now us) ≡ 210) × (length (now vs) ≡ 210) × (length (now lasts) ≡ 21) × (length (now out) ≡ 21) ⌝ }
+    ensures { λ _. ⌜ now (out .exit)
+        ≡ tab (λ k. bitXor (productValue shape (now (first .entry)) (now (extra .entry)) (row 10 k (now (us .entry))) (row 10 k (now (vs .entry)))
+        (getD (now (lasts .entry)) k 0)) (getD (now (shares .entry)) k 0)) 21 ⌝ }
+{
+    for k in 0..21 {
         let a = k * 10;
         let b = a + 10;
-        let p = product_at(shape, first, extra, &us[a..b], &vs[a..b], lasts[k]);
-        out[k] = p ^ products[k];
+        let p = product(shape, first, extra, &us[a..b], &vs[a..b], lasts[k]);
+        out[k] = p ^ shares[k];
     }
 }

@@ -1,0 +1,3 @@
+-- The scheme's values in the forms that the engine computes.
+pub mod Point
+pub mod Values
