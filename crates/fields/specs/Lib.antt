@@ -1,0 +1,2 @@
+-- Where the fields of a layout lie.
+pub mod Offsets
