@@ -52,6 +52,10 @@ module _ (𝓢 : Scheme) (x : Committed) (d : Challenge) where
       outputShare 𝓢 x i t
       ++ (bytesOf wide (openedC 𝓢 x i t d) ++ (numbers wide m1 (openedA 𝓢 x i t d) ++ numbers wide m1 (openedB 𝓢 x i t d)))
 
+-- "Party 0 alone adds offsets"
+abbrev pub own : ℕ → List ℕ → List ℕ → List ℕ
+own i share offset = at i 0 (zipXor share offset) share
+
 abbrev pub committed : List ℕ → List ℕ → List ℕ → Committed
 committed front keyOffset inverseOffsets = record { front = front; keyOffset = keyOffset; inverseOffsets = inverseOffsets }
 
@@ -60,10 +64,6 @@ committed front keyOffset inverseOffsets = record { front = front; keyOffset = k
 
 module _ (S : Shape) where
   open Shape S using (wide, low, m1)
-
-  -- "Party 0 alone adds offsets"
-  abbrev pub own : ℕ → List ℕ → List ℕ → List ℕ
-  own i share offset = at i 0 (zipXor share offset) share
 
   -- P's shares at the points 20 to 40
   abbrev pub ownProducts : List ℕ → ℕ → List ℕ → List ℕ
@@ -130,14 +130,14 @@ module _ {S : Shape} (v : Valid S) (firstBytes productOffsets : List ℕ) (R : �
       module _ (p : Bytes (tapePart (aesScheme S) 3 t)) (q : Bytes productOffsets) where
         -- the product share at point 20 + n
         product-right : (n : ℕ)
-            → numberAt wide n (own S i (tapePart (aesScheme S) 3 t) productOffsets) ≡ productAt (aesScheme S) x i t d (m2 + n)
+            → numberAt wide n (own i (tapePart (aesScheme S) 3 t) productOffsets) ≡ productAt (aesScheme S) x i t d (m2 + n)
         unfolding productAt
         product-right n = go (ℕ-discrete i 0)
           where
             back : m2 + n - m2 ≡ n
             back = omega arith
 
-            go : Dec (i ≡ 0) → numberAt wide n (own S i (tapePart (aesScheme S) 3 t) productOffsets)
+            go : Dec (i ≡ 0) → numberAt wide n (own i (tapePart (aesScheme S) 3 t) productOffsets)
                 ≡ at i 0 (bitXor (numberAt wide (m2 + n - m2) (tapePart (aesScheme S) 3 t)) (numberAt wide (m2 + n - m2) productOffsets))
                 (numberAt wide (m2 + n - m2) (tapePart (aesScheme S) 3 t))
             go (yes e) = rw back (simp at-same (numberAt-zip wide n p q))
@@ -150,7 +150,7 @@ module _ {S : Shape} (v : Valid S) (firstBytes productOffsets : List ℕ) (R : �
         dot-right =
             sum-cong (wideOps (aesScheme S)) 21
             (λ n l. ap₂ (mul (8 * wide) low)
-            (getD-tab (λ n. numberAt wide n (own S i (tapePart (aesScheme S) 3 t) productOffsets)) 21 n 0 l ∙ product-right n)
+            (getD-tab (λ n. numberAt wide n (own i (tapePart (aesScheme S) 3 t) productOffsets)) 21 n 0 l ∙ product-right n)
             (ap (λ s. getD s n 0) (g .far-is) ∙ getD-tab (λ n. far S R (20 + n)) 21 n 0 l ∙ ap (λ m. far S R (m + n)) (sym (v .twenty))))
             ∙ ap (λ m. sum (wideOps (aesScheme S)) (suc m)
             (λ n. mul (8 * wide) low (productAt (aesScheme S) x i t d (m2 + n)) (far S R (m2 + n)))) (sym (v .twenty))

@@ -1,0 +1,2 @@
+-- What the parties of an execution have in common.
+pub mod Given
