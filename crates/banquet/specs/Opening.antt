@@ -132,13 +132,17 @@ module _ (𝓢 : Scheme) where
     abbrev pub productHolds : Bool
     productHolds = eqb sumC (sum (wideOps 𝓢) m1 (λ j. wideMul 𝓢 (sumA j) (sumB j)))
 
-    -- Numbers 13, 14 and 15, given the parties' seeds.
+    -- Numbers 14 and 15, given the parties' seeds.
+    unfoldable pub checkShares : ℕ → (ℕ → List ℕ) → Answer
+    checkShares hidden seedOf =
+        each parties 0 (λ i. eqb i hidden || sharesHold i (seedOf i)) ShareDiffers
+        (require outputsHold (ShareDiffers parties)
+        (require productHolds (ProductDiffers (executionOf transcript)) Accepted))
+
+    -- Number 13, and then those.
     unfoldable pub checkParties : ℕ → (ℕ → List ℕ) → Answer
     checkParties hidden seedOf =
-        each parties 0 (λ i. eqb i hidden || commitmentHolds i (seedOf i)) CommitmentDiffers
-        (each parties 0 (λ i. eqb i hidden || sharesHold i (seedOf i)) ShareDiffers
-        (require outputsHold (ShareDiffers parties)
-        (require productHolds (ProductDiffers (executionOf transcript)) Accepted)))
+        each parties 0 (λ i. eqb i hidden || commitmentHolds i (seedOf i)) CommitmentDiffers (checkShares hidden seedOf)
 
     -- Numbers 8, 9 and 10, and then those.
     unfoldable pub checkOpening : ℕ → List ℕ → Answer

@@ -42,6 +42,7 @@ use Rattle.banquet.specs.Opening.{
   bHolds,
   sharesHold,
   shownSeed,
+  checkShares,
   checkParties,
   checkOpening,
 }
@@ -125,7 +126,7 @@ module _ (𝓢 : Scheme) (publicKey t : List ℕ) where
 
   module _ (h : ℕ) (q : List ℕ) where
     check-split : checkOpening 𝓢 publicKey t h q ≡ Accepted → TranscriptHolds h (shownSeed 𝓢 t h q)
-    unfolding checkOpening checkParties
+    unfolding checkOpening checkParties checkShares
     check-split e =
         let a = require-split _ _ _ (lit< tt) e in
         let b = require-split _ _ _ (lit< tt) (a .1) in
@@ -144,7 +145,7 @@ module _ (𝓢 : Scheme) (publicKey t : List ℕ) where
         }
 
     check-join : TranscriptHolds h (shownSeed 𝓢 t h q) → checkOpening 𝓢 publicKey t h q ≡ Accepted
-    unfolding checkOpening checkParties
+    unfolding checkOpening checkParties checkShares
     check-join o =
         require-join _ _ _ (lt-ltb _ _ (o .in-range))
         (require-join _ _ _ (lt-ltb _ _ (o .hides))

@@ -39,7 +39,7 @@ fn wide_offsets(
     let mut products = [0u64; 21];
     elements::load(shape.wide, fields::field(&sizes, 3, sum), &mut products);
     let mut values = [0u64; 21];
-    offsets::product_offsets(
+    offsets::products(
         shape,
         &draws,
         &extra,

@@ -29,7 +29,7 @@ use Rattle.banquet.specs.Execution.{tapePart, inputShares, outputShare, inputAt
 use Rattle.banquet.specs.Signer.{productOffsetAt, productOffsets}
 use Rattle.banquet.specs.Answer.{require, each, all, cleared, workAfter, outputAfter}
 use Rattle.banquet.specs.Key.{publicKeyOf, checkInputs, checkKey}
-use Rattle.banquet.specs.Opening.{commitmentHolds, sharesHold, checkParties, checkOpening, transcript, opening}
+use Rattle.banquet.specs.Opening.{commitmentHolds, sharesHold, checkShares, checkParties, checkOpening, transcript, opening}
 use Rattle.banquet.specs.Signature.{
   h1Part,
   h3Part,
@@ -89,7 +89,7 @@ unfolding transcript opening h1Part h3Part signerH1Part signerH1
 made = tt
 
 unfoldable checks : Unit {0}
-unfolding commitmentHolds sharesHold checkParties checkOpening frameOf frameHolds completed completedOutput frameH1Part frameH3Part checkSignature
+unfolding commitmentHolds sharesHold checkShares checkParties checkOpening frameOf frameHolds completed completedOutput frameH1Part frameH3Part checkSignature
 checks = tt
 
 unfoldable answers : Unit {0}
