@@ -74,8 +74,8 @@ pub fn sum_rows(n: usize, rows: &[u8], out: &mut [u8])
 {
     let len = out.len();
     slices::zero(out);
-    for i in 0..n {
-        let a = i * len;
+    for j in 0..n {
+        let a = j * len;
         let b = a + len;
         slices::xor_into(out, &rows[a..b]);
     }
