@@ -3,3 +3,4 @@ pub mod Point
 pub mod Values
 pub mod Linear
 pub mod Party
+pub mod Stated
