@@ -1,63 +1,25 @@
-// The check of an opening.
+// The check of an opening, for any parameter set.
 use banquet::Answer;
 use banquet::Shape;
+ghost use mathlib.Core.Path.{_≡_};
+ghost use mathlib.Core.Bool.{_||_};
+ghost use Prim.Native.Nat.{_+_, _*_, _^_, _<_, _≤_};
+ghost use lib.Dec.{eqb};
+ghost use lib.ListN.{length};
+ghost use Rattle.slices.specs.Lists.{row, same};
+ghost use Rattle.slices.specs.Layout.{total};
+ghost use Rattle.compare.specs.Lowest.{lowest};
+ghost use Rattle.banquet.specs.Shape.{transcriptSizes};
+ghost use Rattle.banquet.specs.Sets.{aesScheme};
+ghost use Rattle.banquet.specs.Answer.{workAfter};
+ghost use Rattle.banquet.specs.Hash.{commitment};
+ghost use Rattle.banquet.specs.Opening.{saltOf, executionOf, commitmentOf, shownSeed, checkShares, checkParties, checkOpening};
+ghost use Rattle.banquet.specs.Calls.{verifyOpening};
+ghost use Rattle.sets.specs.Valid.{Valid};
+ghost use Rattle.sets.specs.Bounds.{rowSizes};
+ghost use Rattle.check_opening.specs.Steps.{Given, Scratch};
 
-// Row i of rows as long as out.
-fn copy_row(i: usize, rows: &[u8], out: &mut [u8]) {
-    let len = out.len();
-    let a = i * len;
-    let b = a + len;
-    slices::copy(out, &rows[a..b]);
-}
-
-// The stated shares of party i: output, c, a, b.
-fn stated_row(shape: Shape, transcript: &[u8], i: usize, out: &mut [u8]) {
-    let sizes = sets::transcript_sizes(shape);
-    let c = 16 + shape.wide;
-    let a = c + shape.m1 * shape.wide;
-    let end = out.len();
-    copy_row(i, fields::field(&sizes, 3, transcript), &mut out[0..16]);
-    copy_row(i, fields::field(&sizes, 9, transcript), &mut out[16..c]);
-    copy_row(i, fields::field(&sizes, 10, transcript), &mut out[c..a]);
-    copy_row(i, fields::field(&sizes, 11, transcript), &mut out[a..end]);
-}
-
-fn stated_rows(shape: Shape, transcript: &[u8], out: &mut [u8]) {
-    let len = 16 + shape.wide + 2 * (shape.m1 * shape.wide);
-    let n = shape.parties;
-    for i in 0..n {
-        let a = i * len;
-        let b = a + len;
-        stated_row(shape, transcript, i, &mut out[a..b]);
-    }
-}
-
-// c is the sum of a_j times b_j, of w bytes each, one after the other.
-fn product_holds(shape: Shape, sums: &[u8]) -> bool {
-    let bits = (8 * shape.wide) as u32;
-    let wide = shape.wide;
-    let c = numbers::load(sums, 16, wide);
-    let mut a = [0u64; 10];
-    let mut b = [0u64; 10];
-    let p = 16 + wide;
-    let q = p + shape.m1 * wide;
-    let end = q + shape.m1 * wide;
-    elements::load(wide, &sums[p..q], &mut a);
-    elements::load(wide, &sums[q..end], &mut b);
-    dots::dot(bits, shape.low, &a, &b) == c
-}
-
-fn check_sums(shape: Shape, ciphertext: &[u8], e: u8, rows: &[u8], sums: &mut [u8]) -> Answer {
-    party::sum_rows(shape.parties, rows, sums);
-    if !slices::equal(&sums[0..16], ciphertext) {
-        return Answer::ShareDiffers(shape.parties as u8);
-    }
-    if !product_holds(shape, sums) {
-        return Answer::ProductDiffers(e);
-    }
-    Answer::Accepted
-}
-
+// Numbers 14 and 15: the stated rows, and then those worked out, in one scratch slice.
 fn check_rows(
     shape: Shape,
     public_key: &[u8],
@@ -67,12 +29,16 @@ fn check_rows(
     hidden: usize,
     seeds: &[u8],
     rows: &mut [u8],
-) -> Answer {
+) -> Answer
+    requires { ⌜ Given shape (now public_key) (now transcript) e second × (shape .parties * 16 ≤ length (now seeds))
+        × (length (now rows) ≡ 2 * (shape .parties * total (rowSizes shape))) ⌝ }
+    ensures { λ r. ⌜ r ≡ checkShares (aesScheme shape) (now (public_key .entry)) (now (transcript .entry)) hidden (λ i. row 16 i (now (seeds .entry))) ⌝ }
+{
     let sizes = sets::transcript_sizes(shape);
-    let len = 16 + shape.wide + 2 * (shape.m1 * shape.wide);
+    let len = sets::row_length(shape);
     let whole = rows.len();
     let half = whole / 2;
-    stated_rows(shape, transcript, &mut rows[0..half]);
+    stated::rows(shape, transcript, &mut rows[0..half]);
     execution::share_rows(
         shape,
         fields::field(&sizes, 0, transcript),
@@ -90,14 +56,14 @@ fn check_rows(
         shape.parties,
         len,
         hidden,
-        &rows[0..half],
         &rows[half..whole],
+        &rows[0..half],
     );
     if found < shape.parties {
         return Answer::ShareDiffers(found as u8);
     }
     let mut sums = [0u8; 142];
-    check_sums(
+    stated::check_sums(
         shape,
         &public_key[16..32],
         e,
@@ -106,6 +72,7 @@ fn check_rows(
     )
 }
 
+// The lowest shown party whose commitment differs from the stated one, or the count of parties.
 fn first_commitment(
     shape: Shape,
     transcript: &[u8],
@@ -113,7 +80,14 @@ fn first_commitment(
     hidden: usize,
     seeds: &[u8],
     scratch: &mut [u8],
-) -> usize {
+) -> usize
+    requires { ⌜ Valid shape × (length (now transcript) ≡ total (transcriptSizes shape)) × (e ≡ executionOf (aesScheme shape) (now transcript))
+        × (shape .parties * 16 ≤ length (now seeds)) × (length (now scratch) ≡ shape .parties * 32) ⌝ }
+    ensures { λ r. ⌜ r
+        ≡ lowest (shape .parties) 0 (λ i. eqb i hidden
+        || same (commitment (aesScheme shape) (saltOf (aesScheme shape) (now (transcript .entry))) e i (row 16 i (now (seeds .entry))))
+        (commitmentOf (aesScheme shape) (now (transcript .entry)) i)) ⌝ }
+{
     let sizes = sets::transcript_sizes(shape);
     party::hash_rows(
         0,
@@ -133,6 +107,7 @@ fn first_commitment(
     )
 }
 
+// Numbers 13, 14 and 15, with scratch for the seeds.
 fn check_seeds(
     shape: Shape,
     public_key: &[u8],
@@ -143,7 +118,14 @@ fn check_seeds(
     siblings: &[u8],
     seeds: &mut [u8],
     work: &mut [u8],
-) -> Answer {
+) -> Answer
+    requires { ⌜ Given shape (now public_key) (now transcript) e second × (length (now siblings) ≡ shape .depth * 16)
+        × (length (now seeds) ≡ 16 * 2 ^ shape .depth) × (65536 ≤ length (now work)) ⌝ }
+    ensures { λ r. ⌜ r
+        ≡ checkParties (aesScheme shape) (now (public_key .entry)) (now (transcript .entry)) hidden
+        (shownSeed (aesScheme shape) (now (transcript .entry)) hidden (now (siblings .entry))) ⌝ }
+    ensures { λ _. ⌜ Scratch (now (work .entry)) (now (work .exit)) ⌝ }
+{
     let sizes = sets::transcript_sizes(shape);
     tree::expand_shown(
         shape.depth,
@@ -159,7 +141,7 @@ fn check_seeds(
     if found < shape.parties {
         return Answer::CommitmentDiffers(found as u8);
     }
-    let len = 16 + shape.wide + 2 * (shape.m1 * shape.wide);
+    let len = sets::row_length(shape);
     let all = 2 * (shape.parties * len);
     check_rows(
         shape,
@@ -173,7 +155,7 @@ fn check_seeds(
     )
 }
 
-// Numbers 13, 14 and 15; the work slice's front is scratch.
+// The same.
 fn check_parties(
     shape: Shape,
     public_key: &[u8],
@@ -183,7 +165,14 @@ fn check_parties(
     hidden: usize,
     siblings: &[u8],
     work: &mut [u8],
-) -> Answer {
+) -> Answer
+    requires { ⌜ Given shape (now public_key) (now transcript) e second × (length (now siblings) ≡ shape .depth * 16)
+        × (65536 ≤ length (now work)) ⌝ }
+    ensures { λ r. ⌜ r
+        ≡ checkParties (aesScheme shape) (now (public_key .entry)) (now (transcript .entry)) hidden
+        (shownSeed (aesScheme shape) (now (transcript .entry)) hidden (now (siblings .entry))) ⌝ }
+    ensures { λ _. ⌜ Scratch (now (work .entry)) (now (work .exit)) ⌝ }
+{
     let mut seeds = [0u8; 2048];
     let end = sets::leaf_bytes(shape);
     check_seeds(
@@ -199,6 +188,7 @@ fn check_parties(
     )
 }
 
+// Numbers 8, 9 and 10, and then those; after those the work slice's front is zero.
 fn check_ranges(
     shape: Shape,
     public_key: &[u8],
@@ -206,7 +196,14 @@ fn check_ranges(
     hidden: usize,
     siblings: &[u8],
     work: &mut [u8],
-) -> Answer {
+) -> Answer
+    requires { ⌜ Valid shape × (length (now public_key) ≡ 32) × (length (now transcript) ≡ total (transcriptSizes shape))
+        × (length (now siblings) ≡ shape .depth * 16) × (65536 ≤ length (now work)) ⌝ }
+    ensures { λ r. ⌜ r ≡ checkOpening (aesScheme shape) (now (public_key .entry)) (now (transcript .entry)) hidden (now (siblings .entry)) ⌝ }
+    ensures { λ _. ⌜ now (work .exit)
+        ≡ workAfter (checkOpening (aesScheme shape) (now (public_key .entry)) (now (transcript .entry)) hidden (now (siblings .entry)))
+        (now (work .entry)) ⌝ }
+{
     let sizes = sets::transcript_sizes(shape);
     let e = transcript[32];
     if (e as usize) >= shape.executions {
@@ -234,8 +231,13 @@ fn check_ranges(
     answer
 }
 
-// The call: lengths first.
-pub fn verify_opening(shape: Shape, public_key: &[u8], opening: &[u8], work: &mut [u8]) -> Answer {
+// The call, which refuses by lengths first.
+pub fn verify_opening(shape: Shape, public_key: &[u8], opening: &[u8], work: &mut [u8]) -> Answer
+    requires { ⌜ Valid shape ⌝ }
+    ensures { λ r. ⌜ r ≡ verifyOpening (aesScheme shape) (now (public_key .entry)) (now (opening .entry)) (now (work .entry)) .answer ⌝ }
+    ensures { λ _. ⌜ now (work .exit)
+        ≡ verifyOpening (aesScheme shape) (now (public_key .entry)) (now (opening .entry)) (now (work .entry)) .work ⌝ }
+{
     if public_key.len() != 32 {
         return Answer::PublicKeyLength;
     }

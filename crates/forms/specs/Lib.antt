@@ -4,3 +4,4 @@ pub mod Values
 pub mod Linear
 pub mod Party
 pub mod Stated
+pub mod Sums

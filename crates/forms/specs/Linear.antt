@@ -71,9 +71,13 @@ unfolding sumXor
 part-sum at m zero f = part-nil at m
 part-sum at m (suc n) f = part-zip at m (sumXor n f) (f n) ∙ ap (λ s. zipXor s (part at m (f n))) (part-sum at m n f)
 
-pub numberAt-sum : (w k n : ℕ) (f : ℕ → List ℕ) → ((i : ℕ) → i < n → Bytes (f i)) → numberAt w k (sumXor n f) ≡ xorSum n (λ i. numberAt w k (f i))
+pub number-sum : (n : ℕ) (f : ℕ → List ℕ) → ((i : ℕ) → i < n → Bytes (f i)) → number (sumXor n f) ≡ xorSum n (λ i. number (f i))
 unfolding sumXor xorSum number
-numberAt-sum w k zero f b = ap number (part-nil (k * w) w)
-numberAt-sum w k (suc n) f b =
-    numberAt-zip w k (sum-bytes n (λ j l. b j (omega arith))) (b n (omega arith))
-    ∙ ap (λ x. bitXor x (numberAt w k (f n))) (numberAt-sum w k n f (λ i l. b i (omega arith)))
+number-sum zero f b = refl
+number-sum (suc n) f b =
+    number-zip (sumXor n f) (f n) (sum-bytes n (λ j l. b j (omega arith))) (b n (omega arith))
+    ∙ ap (λ x. bitXor x (number (f n))) (number-sum n f (λ i l. b i (omega arith)))
+
+pub numberAt-sum : (w k n : ℕ) (f : ℕ → List ℕ) → ((i : ℕ) → i < n → Bytes (f i)) → numberAt w k (sumXor n f) ≡ xorSum n (λ i. numberAt w k (f i))
+numberAt-sum w k n f b =
+    ap number (part-sum (k * w) w n f) ∙ number-sum n (λ i. row w k (f i)) (λ i l. part-bytes (k * w) w (f i) (b i l))

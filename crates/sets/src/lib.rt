@@ -50,7 +50,16 @@ pub fn leaf_bytes(shape: Shape) -> usize
     16 << depth
 }
 
-// The bytes of a party's shares of the output, of c, a and b.
+// A party's shares of the output, of c, a and b.
+pub fn row_sizes(shape: Shape) -> [usize; 4]
+    requires { ⌜ Valid shape ⌝ }
+    ensures { λ r. ⌜ r ≡ rowSizes shape ⌝ }
+{
+    let row = shape.m1 * shape.wide;
+    [16, shape.wide, row, row]
+}
+
+// The bytes of them all.
 pub fn row_length(shape: Shape) -> usize
     requires { ⌜ Valid shape ⌝ }
     ensures { λ r. ⌜ r ≡ total (rowSizes shape) ⌝ }

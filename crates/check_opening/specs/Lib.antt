@@ -1,0 +1,2 @@
+-- The steps of the check of an opening.
+pub mod Steps

@@ -1,0 +1,54 @@
+-- The steps of the check of an opening: what each is given and answers. Assumes nothing.
+use mathlib.Core.Path.{_≡_, refl, ap, ap₂, _∙_, sym}
+use mathlib.Core.Bool.{Bool, true, false}
+use mathlib.Core.List.{List}
+use Prim.Native.Nat.{ℕ, zero, suc, _+_, _*_, _<_, _≤_}
+use native.Mathlib.Omega.{arith}
+use lib.ListN.{length, drop}
+use Rattle.slices.specs.Lists.{choose}
+use Rattle.slices.specs.Layout.{total}
+use Rattle.compare.specs.Lowest.{lowest}
+use Rattle.banquet.specs.declared.Shape.{Shape}
+use Rattle.banquet.specs.declared.Answer.{Answer}
+use Rattle.banquet.specs.Shape.{workLength, transcriptSizes}
+use Rattle.banquet.specs.Sets.{aesScheme}
+use Rattle.banquet.specs.Answer.{require, each}
+use Rattle.banquet.specs.Opening.{executionOf, secondOf}
+use Rattle.sets.specs.Valid.{Valid}
+
+-- what all steps are given: the public key, the transcript, and of it the execution and the second challenge as numbers
+pub record Given (S : Shape) (publicKey transcript : List ℕ) (e second : ℕ) : Type 0 where
+  pub valid : Valid S
+  pub key-size : length publicKey ≡ 32
+  pub transcript-size : length transcript ≡ total (transcriptSizes S)
+  pub e-is : e ≡ executionOf (aesScheme S) transcript
+  pub second-is : second ≡ secondOf (aesScheme S) transcript
+
+-- the work slice is scratch: only its front may differ
+pub record Scratch (w w′ : List ℕ) : Type 0 where
+  pub long : length w′ ≡ length w
+  pub rest : drop workLength w′ ≡ drop workLength w
+
+-- ---- a test of each number refuses at the lowest that fails
+
+module _ (test : ℕ → Bool) (refusal : ℕ → Answer) (rest : Answer) where
+  each-from : (n i : ℕ) → ((lowest n i test < i + n) → each n i test refusal rest ≡ refusal (lowest n i test))
+      × ((i + n ≤ lowest n i test) → each n i test refusal rest ≡ rest)
+  unfolding each lowest
+  each-from zero i = (λ h. absurd (omega arith), λ h. refl)
+  each-from (suc n) i = go (test i) (each-from n (suc i))
+    where
+      go : (t : Bool)
+          → ((lowest n (suc i) test < suc i + n) → each n (suc i) test refusal rest ≡ refusal (lowest n (suc i) test))
+          × ((suc i + n ≤ lowest n (suc i) test) → each n (suc i) test refusal rest ≡ rest)
+          → ((choose t (lowest n (suc i) test) i < i + suc n)
+          → require t (refusal i) (each n (suc i) test refusal rest) ≡ refusal (choose t (lowest n (suc i) test) i))
+          × ((i + suc n ≤ choose t (lowest n (suc i) test) i) → require t (refusal i) (each n (suc i) test refusal rest) ≡ rest)
+      go true ih = (λ h. ih .0 (omega arith), λ h. ih .1 (omega arith))
+      go false ih = (λ h. refl, λ h. absurd (omega arith))
+
+  pub each-found : (n : ℕ) {found : ℕ} → found ≡ lowest n 0 test → found < n → each n 0 test refusal rest ≡ refusal found
+  each-found n e l = each-from n 0 .0 (omega (arith, e)) ∙ ap refusal (sym e)
+
+  pub each-none : (n : ℕ) {found : ℕ} → found ≡ lowest n 0 test → n ≤ found → each n 0 test refusal rest ≡ rest
+  each-none n e l = each-from n 0 .1 (omega (arith, e))

@@ -1,0 +1,87 @@
+// What an opening states: each party's shares in a row, and the end of the check, which looks at the rows' sum alone.
+use banquet::Answer;
+use banquet::Shape;
+ghost use mathlib.Core.Path.{_≡_};
+ghost use Prim.Native.Nat.{_+_, _*_, _<_, _≤_};
+ghost use lib.ListN.{length};
+ghost use Rattle.slices.specs.Lists.{rows as rowsOf, row, sumXor};
+ghost use Rattle.slices.specs.Layout.{total};
+ghost use Rattle.banquet.specs.Shape.{transcriptSizes};
+ghost use Rattle.sets.specs.Valid.{Valid};
+ghost use Rattle.sets.specs.Bounds.{rowSizes};
+ghost use Rattle.forms.specs.Stated.{statedRow};
+ghost use Rattle.forms.specs.Sums.{rowProductHolds, sumsAnswer};
+
+// Row i of rows as long as out.
+fn copy_row(i: usize, rows: &[u8], out: &mut [u8])
+    requires { ⌜ i * length (now out) + length (now out) ≤ length (now rows) ⌝ }
+    ensures { λ _. ⌜ now (out .exit) ≡ row (length (now (out .entry))) i (now (rows .entry)) ⌝ }
+{
+    let len = out.len();
+    let a = i * len;
+    let b = a + len;
+    slices::copy(out, &rows[a..b]);
+}
+
+// The stated shares of party i: output, c, a, b.
+fn stated_row(shape: Shape, transcript: &[u8], i: usize, out: &mut [u8])
+    requires { ⌜ Valid shape × (length (now transcript) ≡ total (transcriptSizes shape)) × (i < shape .parties)
+        × (length (now out) ≡ total (rowSizes shape)) ⌝ }
+    ensures { λ _. ⌜ now (out .exit) ≡ statedRow shape (now (transcript .entry)) i ⌝ }
+{
+    let sizes = sets::transcript_sizes(shape);
+    let row = sets::row_sizes(shape);
+    let c = 16 + shape.wide;
+    let a = fields::offset(&row, 3);
+    let end = out.len();
+    copy_row(i, fields::field(&sizes, 3, transcript), &mut out[0..16]);
+    copy_row(i, fields::field(&sizes, 9, transcript), &mut out[16..c]);
+    copy_row(i, fields::field(&sizes, 10, transcript), &mut out[c..a]);
+    copy_row(i, fields::field(&sizes, 11, transcript), &mut out[a..end]);
+}
+
+// The stated shares of all parties.
+pub fn rows(shape: Shape, transcript: &[u8], out: &mut [u8])
+    requires { ⌜ Valid shape × (length (now transcript) ≡ total (transcriptSizes shape))
+        × (length (now out) ≡ shape .parties * total (rowSizes shape)) ⌝ }
+    ensures { λ _. ⌜ now (out .exit) ≡ rowsOf (statedRow shape (now (transcript .entry))) (shape .parties) ⌝ }
+{
+    let len = sets::row_length(shape);
+    let n = shape.parties;
+    for i in 0..n {
+        let a = i * len;
+        let b = a + len;
+        stated_row(shape, transcript, i, &mut out[a..b]);
+    }
+}
+
+// c is the sum of a_j times b_j, of w bytes each, one after the other.
+fn product_holds(shape: Shape, sums: &[u8]) -> bool
+    requires { ⌜ Valid shape × (length (now sums) ≡ total (rowSizes shape)) ⌝ }
+    ensures { λ r. ⌜ r ≡ rowProductHolds shape (now (sums .entry)) ⌝ }
+{
+    let sizes = sets::row_sizes(shape);
+    let bits = (8 * shape.wide) as u32;
+    let c = numbers::load(sums, 16, shape.wide);
+    let mut a = [0u64; 10];
+    elements::load(shape.wide, fields::field(&sizes, 2, sums), &mut a);
+    let mut b = [0u64; 10];
+    elements::load(shape.wide, fields::field(&sizes, 3, sums), &mut b);
+    dots::dot(bits, shape.low, &b, &a) == c
+}
+
+// The end of the check: the sum of the output shares is the ciphertext, and the product holds.
+pub fn check_sums(shape: Shape, ciphertext: &[u8], e: u8, rows: &[u8], sums: &mut [u8]) -> Answer
+    requires { ⌜ Valid shape × (length (now rows) ≡ shape .parties * total (rowSizes shape)) × (length (now sums) ≡ total (rowSizes shape)) ⌝ }
+    ensures { λ r. ⌜ r
+        ≡ sumsAnswer shape (now (ciphertext .entry)) e (sumXor (shape .parties) (λ i. row (total (rowSizes shape)) i (now (rows .entry)))) ⌝ }
+{
+    party::sum_rows(shape.parties, rows, sums);
+    if !slices::equal(&sums[0..16], ciphertext) {
+        return Answer::ShareDiffers(shape.parties as u8);
+    }
+    if !product_holds(shape, sums) {
+        return Answer::ProductDiffers(e);
+    }
+    Answer::Accepted
+}
