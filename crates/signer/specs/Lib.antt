@@ -1,0 +1,2 @@
+-- What the executions of one signature have in common.
+pub mod Given

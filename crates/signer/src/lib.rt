@@ -1,0 +1,149 @@
+// One execution's offsets, as the holder of the key works them out.
+use banquet::Shape;
+ghost use mathlib.Core.Path.{_≡_};
+ghost use Prim.Native.Nat.{_*_, _≤_};
+ghost use lib.ListN.{length};
+ghost use Rattle.slices.specs.Lists.{zipXor, sumXor, row};
+ghost use Rattle.slices.specs.Layout.{total};
+ghost use Rattle.banquet.specs.Shape.{tapeSizes, firstChallengeLength, productPoints};
+ghost use Rattle.banquet.specs.Sets.{aesScheme};
+ghost use Rattle.banquet.specs.Hash.{tape};
+ghost use Rattle.banquet.specs.Execution.{tapePart};
+ghost use Rattle.sets.specs.Valid.{Valid};
+ghost use Rattle.forms.specs.Offsets.{workedOffsets};
+ghost use Rattle.signer.specs.Given.{Rows};
+
+// "An offset is the true value plus the sum of tape shares": of the key and of the inverses.
+fn byte_offsets(
+    shape: Shape,
+    key: &[u8],
+    inverses: &[u8],
+    sum: &[u8],
+    key_offset: &mut [u8],
+    inverse_offsets: &mut [u8],
+)
+    requires { ⌜ Valid shape × (length (now key) ≡ 16) × (length (now inverses) ≡ 200) × (length (now sum) ≡ total (tapeSizes shape))
+        × (length (now key_offset) ≡ 16) × (length (now inverse_offsets) ≡ 200) ⌝ }
+    ensures { λ _. ⌜ now (key_offset .exit) ≡ zipXor (now (key .entry)) (tapePart (aesScheme shape) 0 (now (sum .entry))) ⌝ }
+    ensures { λ _. ⌜ now (inverse_offsets .exit) ≡ zipXor (now (inverses .entry)) (tapePart (aesScheme shape) 1 (now (sum .entry))) ⌝ }
+{
+    let sizes = sets::tape_sizes(shape);
+    slices::copy(key_offset, key);
+    slices::xor_into(key_offset, fields::field(&sizes, 0, sum));
+    slices::copy(inverse_offsets, inverses);
+    slices::xor_into(inverse_offsets, fields::field(&sizes, 1, sum));
+}
+
+// The product offsets, from the rows and Lagrange's values at the points 20 to 40.
+fn wide_offsets(
+    shape: Shape,
+    us: &[u64],
+    vs: &[u64],
+    lasts: &[u64],
+    sum: &[u8],
+    first: &[u8],
+    out: &mut [u8],
+)
+    requires { ⌜ Rows shape (now us) (now vs) (now lasts) × (length (now sum) ≡ total (tapeSizes shape))
+        × (length (now first) ≡ firstChallengeLength shape) × (length (now out) ≡ productPoints shape * shape .wide) ⌝ }
+    ensures { λ _. ⌜ now (out .exit)
+        ≡ workedOffsets shape (now (us .entry)) (now (vs .entry)) (now (lasts .entry)) (now (sum .entry)) (now (first .entry)) ⌝ }
+{
+    let sizes = sets::tape_sizes(shape);
+    let mut draws = [0u64; 10];
+    elements::load(shape.wide, first, &mut draws);
+    let mut extra = [0u64; 20];
+    elements::load(shape.wide, fields::field(&sizes, 2, sum), &mut extra);
+    let mut shares = [0u64; 21];
+    elements::load(shape.wide, fields::field(&sizes, 3, sum), &mut shares);
+    let mut values = [0u64; 21];
+    offsets::products(shape, &draws, &extra, &shares, us, vs, lasts, &mut values);
+    elements::store(shape.wide, &values, out);
+}
+
+// All offsets, with scratch for the sum of the tapes.
+fn offsets_under(
+    shape: Shape,
+    salt: &[u8],
+    e: u8,
+    seeds: &[u8],
+    key: &[u8],
+    inverses: &[u8],
+    us: &[u64],
+    vs: &[u64],
+    lasts: &[u64],
+    first: &[u8],
+    sum: &mut [u8],
+    key_offset: &mut [u8],
+    inverse_offsets: &mut [u8],
+    product_offsets: &mut [u8],
+)
+    requires { ⌜ Rows shape (now us) (now vs) (now lasts) × (length (now salt) ≡ 32) × (shape .parties * 16 ≤ length (now seeds))
+        × (length (now key) ≡ 16) × (length (now inverses) ≡ 200) × (length (now first) ≡ firstChallengeLength shape)
+        × (length (now sum) ≡ total (tapeSizes shape)) × (length (now key_offset) ≡ 16) × (length (now inverse_offsets) ≡ 200)
+        × (length (now product_offsets) ≡ productPoints shape * shape .wide) ⌝ }
+    ensures { λ _. ⌜ now (key_offset .exit)
+        ≡ zipXor (now (key .entry)) (tapePart (aesScheme shape) 0 (sumXor (shape .parties)
+        (λ i. tape (aesScheme shape) (now (salt .entry)) e i (row 16 i (now (seeds .entry)))))) ⌝ }
+    ensures { λ _. ⌜ now (inverse_offsets .exit)
+        ≡ zipXor (now (inverses .entry)) (tapePart (aesScheme shape) 1 (sumXor (shape .parties)
+        (λ i. tape (aesScheme shape) (now (salt .entry)) e i (row 16 i (now (seeds .entry)))))) ⌝ }
+    ensures { λ _. ⌜ now (product_offsets .exit)
+        ≡ workedOffsets shape (now (us .entry)) (now (vs .entry)) (now (lasts .entry)) (sumXor (shape .parties)
+        (λ i. tape (aesScheme shape) (now (salt .entry)) e i (row 16 i (now (seeds .entry))))) (now (first .entry)) ⌝ }
+{
+    party::hash_sum(4, salt, e, shape.parties, seeds, sum);
+    byte_offsets(shape, key, inverses, sum, key_offset, inverse_offsets);
+    wide_offsets(shape, us, vs, lasts, sum, first, product_offsets);
+}
+
+// All offsets of an execution.
+pub fn offsets(
+    shape: Shape,
+    salt: &[u8],
+    e: u8,
+    seeds: &[u8],
+    key: &[u8],
+    inverses: &[u8],
+    us: &[u64],
+    vs: &[u64],
+    lasts: &[u64],
+    first: &[u8],
+    key_offset: &mut [u8],
+    inverse_offsets: &mut [u8],
+    product_offsets: &mut [u8],
+)
+    requires { ⌜ Rows shape (now us) (now vs) (now lasts) × (length (now salt) ≡ 32) × (shape .parties * 16 ≤ length (now seeds))
+        × (length (now key) ≡ 16) × (length (now inverses) ≡ 200) × (length (now first) ≡ firstChallengeLength shape)
+        × (length (now key_offset) ≡ 16) × (length (now inverse_offsets) ≡ 200)
+        × (length (now product_offsets) ≡ productPoints shape * shape .wide) ⌝ }
+    ensures { λ _. ⌜ now (key_offset .exit)
+        ≡ zipXor (now (key .entry)) (tapePart (aesScheme shape) 0 (sumXor (shape .parties)
+        (λ i. tape (aesScheme shape) (now (salt .entry)) e i (row 16 i (now (seeds .entry)))))) ⌝ }
+    ensures { λ _. ⌜ now (inverse_offsets .exit)
+        ≡ zipXor (now (inverses .entry)) (tapePart (aesScheme shape) 1 (sumXor (shape .parties)
+        (λ i. tape (aesScheme shape) (now (salt .entry)) e i (row 16 i (now (seeds .entry)))))) ⌝ }
+    ensures { λ _. ⌜ now (product_offsets .exit)
+        ≡ workedOffsets shape (now (us .entry)) (now (vs .entry)) (now (lasts .entry)) (sumXor (shape .parties)
+        (λ i. tape (aesScheme shape) (now (salt .entry)) e i (row 16 i (now (seeds .entry))))) (now (first .entry)) ⌝ }
+{
+    let sizes = sets::tape_sizes(shape);
+    let size = fields::offset(&sizes, 4);
+    let mut sum = [0u8; 462];
+    offsets_under(
+        shape,
+        salt,
+        e,
+        seeds,
+        key,
+        inverses,
+        us,
+        vs,
+        lasts,
+        first,
+        &mut sum[0..size],
+        key_offset,
+        inverse_offsets,
+        product_offsets,
+    );
+}

@@ -1,0 +1,2 @@
+-- An opening's parts as they are written.
+pub mod Written
