@@ -1,8 +1,8 @@
 -- The seeds of nodes stand in rows of 16 bytes: row i is the seed of node i in the list. Assumes nothing.
-use mathlib.Core.Path.{_≡_, refl, sym, ap, ap₂, _∙_}
+use mathlib.Core.Path.{_≡_, refl, sym, ap, _∙_}
 use mathlib.Core.Bool.{Bool, true, false}
 use mathlib.Core.List.{List, [], _∷_, _++_, append-assoc}
-use Prim.Native.Nat.{ℕ, zero, suc, _+_, _-_, _*_, _^_, _<_, _≤_}
+use Prim.Native.Nat.{ℕ, zero, suc, _+_, _-_, _*_, _^_, _<_}
 use native.Mathlib.Nat.{suc-mul}
 use native.Mathlib.Omega.{arith}
 use lib.Dec.{ltb}
@@ -56,7 +56,7 @@ row-seed (n ∷ nodes) p (suc i) l =
 -- ---- leaves, all of them and those shown, for any hash that gives as many bytes as are asked for
 
 module _ (hash : List ℕ → ℕ → List ℕ) (hash-sized : (m : List ℕ) (n : ℕ) → Sized n (hash m n)) (salt : List ℕ) (e : ℕ) where
-  sized-leaves : (d v : ℕ) (seed : List ℕ) → length seed ≡ 16 → SeedSized (leaves hash salt e d v seed)
+  pub sized-leaves : (d v : ℕ) (seed : List ℕ) → length seed ≡ 16 → SeedSized (leaves hash salt e d v seed)
   unfolding leaves
   sized-leaves zero v seed h = (h, tt)
   sized-leaves (suc d) v seed h =
@@ -64,7 +64,7 @@ module _ (hash : List ℕ → ℕ → List ℕ) (hash-sized : (m : List ℕ) (n 
       (sized-leaves d (2 * v + 1) _ (length-left hash hash-sized salt e v seed))
       (sized-leaves d (2 * v + 2) _ (length-right hash hash-sized salt e v seed))
 
-  sized-shown : (d v : ℕ) (seeds : List ℕ) (h : ℕ) → length seeds ≡ d * 16 → SeedSized (shownLeaves hash salt e d v seeds h)
+  pub sized-shown : (d v : ℕ) (seeds : List ℕ) (h : ℕ) → length seeds ≡ d * 16 → SeedSized (shownLeaves hash salt e d v seeds h)
   unfolding shownLeaves
   sized-shown zero v seeds h k = (refl, tt)
   sized-shown (suc d) v seeds h k =

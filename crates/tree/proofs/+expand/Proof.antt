@@ -3,11 +3,11 @@ use mathlib.Core.Path.{ap, _∙_}
 use Prim.Native.Nat.{ℕ, _-_, _/_, _^_, _<_}
 use native.Mathlib.Omega.{arith}
 use lib.ListN.{length}
-use lib.Seq.{length-take-le}
 use borrow.Author.Needs.{needs}
 use borrow.Fn.Kinds.{In}
 use borrow.Fn.PlainCycle.{Measures, is, falls, and}
-use Rattle.tree.proofs.Laws.{Halved, halved, join, first-half, second-half, pair-long, second-long, leaves-none, leaves-from}
+use Rattle.tree.proofs.Halves.{Halved, halved, join, first-half, second-half}
+use Rattle.tree.proofs.Leaves.{both-long, leaves-none, leaves-from}
 use Rattle.tree.proofs.expand.Reads as expand
 use Rattle.tree.proofs.expand.Kinds as expand-kinds
 use Rattle.tree.proofs.+expand.Lts-expand as expand-lts
@@ -44,10 +44,8 @@ pub +expand-spec : {M : Type 1} → statement M
     let k = c .before .before .before in
     let s = k .before .before .before .before .before in
     let b = below t k in
-    let long = pair-long _ _ _ _ (k .children .ensures) in (
-      omega (arith, s .pre .0),
-      (s .pre .1 .0, length-take-le 16 (k .children .result) (omega arith), first-half b (s .args .out .now) (s .pre .1 .2), b .left),
-    ))
+    let long = both-long _ _ _ _ (k .children .ensures) in
+    (omega (arith, s .pre .0), (s .pre .1 .0, omega (arith, long), first-half b (s .args .out .now) (s .pre .1 .2), b .left)))
     (λ c. let k = c .before .before .before .before .before .before in omega (arith, below t k))
     (λ c. let k = c .before .before .before .before .before .before in omega (arith, below t k))
     (λ c. let k = c .before .before .before .before .before .before in omega (arith, below t k)) (λ c. search needs)
@@ -56,15 +54,10 @@ pub +expand-spec : {M : Type 1} → statement M
     let first = c .before .before .before .before .before .expand in
     let k = c .before .before .before .before .before .before .before .before .before in
     let s = k .before .before .before .before .before in
-    let b = below t k in (
-      omega (arith, s .pre .0, b .deep),
-      (
-        s .pre .1 .0,
-        second-long _ _ _ _ (k .children .ensures),
-        second-half b (s .args .out .now) (s .pre .1 .2) (first .last .1 .1 .1 .1 .1 .0) (first .kept .1 .1 .1 .1 .1 .0),
-        b .right,
-      ),
-    ))
+    let b = below t k in
+    let long = both-long _ _ _ _ (k .children .ensures) in
+    let room = second-half b (s .args .out .now) (s .pre .1 .2) (first .last .1 .1 .1 .1 .1 .0) (first .kept .1 .1 .1 .1 .1 .0) in
+    (omega (arith, s .pre .0, b .deep), (s .pre .1 .0, omega (arith, long), room, b .right)))
     (λ c. search needs)
     (λ c. leaves-none _ _ _ _ _ (c .before .before .before .before .if1 .taken) (c .before .before .copy .ensures))
     (λ c. search needs)

@@ -10,7 +10,7 @@ use Rattle.slices.specs.Lists.{put}
 use Rattle.slices.specs.Numbers.{bytesOf}
 use Rattle.shake.specs.Shake128.{shake128}
 use Rattle.banquet.specs.Hash.{children}
-use Rattle.tree.proofs.Laws.{stored, salt-long, buffer}
+use Rattle.tree.proofs.Input.{stored, salt-long, buffer}
 use Rattle.tree.proofs.children.Statement.{statement}
 use Rattle.tree.proofs.children.Tie as tie
 
