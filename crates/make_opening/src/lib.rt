@@ -1,8 +1,23 @@
 // An execution opened by the holder of the key, for any parameter set.
 use banquet::Answer;
 use banquet::Shape;
+ghost use mathlib.Core.Path.{_≡_};
+ghost use mathlib.Core.List.{_++_};
+ghost use Prim.Native.Nat.{_+_, _*_, _^_, _<_, _≤_};
+ghost use lib.ListN.{length, drop};
+ghost use Rattle.slices.specs.Layout.{total};
+ghost use Rattle.shake.specs.Shake128.{shake128};
+ghost use Rattle.banquet.specs.Shape.{openingLength, productPoints};
+ghost use Rattle.banquet.specs.Sets.{aesScheme};
+ghost use Rattle.banquet.specs.Tree.{nodeSeeds, leaves};
+ghost use Rattle.banquet.specs.Opening.{opening};
+ghost use Rattle.banquet.specs.Calls.{openExecution};
+ghost use Rattle.sets.specs.Valid.{Valid};
+ghost use Rattle.sets.specs.Bounds.{rowSizes};
+ghost use Rattle.make_opening.specs.Steps.{Lengths, Ranges, Inverted, AtPoints};
 
-fn make_under(
+// The opening into out, from the parties' seeds, the inverses and the rows at the points 20 to 40. The rows of shares are scratch.
+fn make_shares(
     shape: Shape,
     key: &[u8],
     public_key: &[u8],
@@ -12,15 +27,25 @@ fn make_under(
     e: u8,
     second: u64,
     hidden: usize,
-    seeds: &[u8],
+    inputs: &[u8],
     inverses: &[u8],
+    seeds: &[u8],
     us: &[u64],
     vs: &[u64],
     lasts: &[u64],
     products: &mut [u8],
     rows: &mut [u8],
     out: &mut [u8],
-) {
+)
+    requires { ⌜ Lengths shape (now key) (now public_key) (now salt) (now root) (now first)
+        × Ranges shape e second hidden × Inverted shape (now key) (now public_key) (now inputs) (now inverses)
+        × AtPoints shape (now inputs) (now inverses) (now us) (now vs) (now lasts)
+        × (now seeds ≡ nodeSeeds (leaves shake128 (now salt) e (shape .depth) 0 (now root)))
+        × (length (now products) ≡ productPoints shape * shape .wide) × (length (now rows) ≡ shape .parties * total (rowSizes shape))
+        × (length (now out) ≡ openingLength shape) ⌝ }
+    ensures { λ _. ⌜ now (out .exit)
+        ≡ opening (aesScheme shape) (now (key .entry)) (now (public_key .entry)) (now (salt .entry)) (now (root .entry)) (now (first .entry)) e second hidden ⌝ }
+{
     let mut key_offset = [0u8; 16];
     let mut inverse_offsets = [0u8; 200];
     signer::offsets(
@@ -68,7 +93,8 @@ fn make_under(
     );
 }
 
-fn make(
+// The same from the S-boxes' inputs and inverses alone. The seeds are scratch, too.
+fn make_rows(
     shape: Shape,
     key: &[u8],
     public_key: &[u8],
@@ -83,7 +109,14 @@ fn make(
     seeds: &mut [u8],
     rows: &mut [u8],
     out: &mut [u8],
-) {
+)
+    requires { ⌜ Lengths shape (now key) (now public_key) (now salt) (now root) (now first)
+        × Ranges shape e second hidden × Inverted shape (now key) (now public_key) (now inputs) (now inverses)
+        × (length (now seeds) ≡ 16 * 2 ^ shape .depth) × (length (now rows) ≡ shape .parties * total (rowSizes shape))
+        × (length (now out) ≡ openingLength shape) ⌝ }
+    ensures { λ _. ⌜ now (out .exit)
+        ≡ opening (aesScheme shape) (now (key .entry)) (now (public_key .entry)) (now (salt .entry)) (now (root .entry)) (now (first .entry)) e second hidden ⌝ }
+{
     tree::expand(shape.depth, salt, e, 0, root, seeds);
     let mut us = [0u64; 210];
     let mut vs = [0u64; 210];
@@ -91,7 +124,7 @@ fn make(
     offsets::true_rows(shape, inputs, inverses, &mut us, &mut vs, &mut lasts);
     let mut products = [0u8; 126];
     let end = 21 * shape.wide;
-    make_under(
+    make_shares(
         shape,
         key,
         public_key,
@@ -101,8 +134,9 @@ fn make(
         e,
         second,
         hidden,
-        seeds,
+        inputs,
         inverses,
+        seeds,
         &us,
         &vs,
         &lasts,
@@ -112,7 +146,63 @@ fn make(
     );
 }
 
-pub fn open(
+// The opening into the front of out; the work slice's front is scratch.
+fn make(
+    shape: Shape,
+    key: &[u8],
+    public_key: &[u8],
+    salt: &[u8],
+    root: &[u8],
+    first: &[u8],
+    e: u8,
+    second: u64,
+    hidden: usize,
+    inputs: &[u8],
+    inverses: &[u8],
+    out: &mut [u8],
+    work: &mut [u8],
+)
+    requires { ⌜ Lengths shape (now key) (now public_key) (now salt) (now root) (now first)
+        × Ranges shape e second hidden × Inverted shape (now key) (now public_key) (now inputs) (now inverses)
+        × (openingLength shape ≤ length (now out)) × (65536 ≤ length (now work)) ⌝ }
+    ensures { λ _. ⌜ now (out .exit)
+        ≡ opening (aesScheme shape) (now (key .entry)) (now (public_key .entry)) (now (salt .entry)) (now (root .entry)) (now (first .entry)) e second hidden
+        ++ drop (openingLength shape) (now (out .entry)) ⌝ }
+    ensures { λ _. ⌜ (length (now (work .exit)) ≡ length (now (work .entry))) × (drop 65536 (now (work .exit)) ≡ drop 65536 (now (work .entry))) ⌝ }
+{
+    let mut seeds = [0u8; 2048];
+    let end = sets::leaf_bytes(shape);
+    let rows = shape.parties * sets::row_length(shape);
+    let size = opening_length(shape);
+    make_rows(
+        shape,
+        key,
+        public_key,
+        salt,
+        root,
+        first,
+        e,
+        second,
+        hidden,
+        inputs,
+        inverses,
+        &mut seeds[0..end],
+        &mut work[0..rows],
+        &mut out[0..size],
+    );
+}
+
+// The bytes of an opening.
+fn opening_length(shape: Shape) -> usize
+    requires { ⌜ Valid shape ⌝ }
+    ensures { λ r. ⌜ r ≡ openingLength shape ⌝ }
+{
+    let sizes = sets::transcript_sizes(shape);
+    fields::offset(&sizes, 12) + (1 + shape.depth * 16)
+}
+
+// The call where lengths and numbers are right: 11 and 12, and else the opening.
+fn open_key(
     shape: Shape,
     key: &[u8],
     public_key: &[u8],
@@ -124,7 +214,19 @@ pub fn open(
     hidden: usize,
     out: &mut [u8],
     work: &mut [u8],
-) -> Answer {
+) -> Answer
+    requires { ⌜ Lengths shape (now key) (now public_key) (now salt) (now root) (now first)
+        × Ranges shape e second hidden × (openingLength shape ≤ length (now out)) × (65536 ≤ length (now work)) ⌝ }
+    ensures { λ r. ⌜ r
+        ≡ openExecution (aesScheme shape) (now (key .entry)) (now (public_key .entry)) (now (salt .entry)) (now (root .entry)) (now (first .entry))
+        e second hidden (now (out .entry)) (now (work .entry)) .answer ⌝ }
+    ensures { λ _. ⌜ now (out .exit)
+        ≡ openExecution (aesScheme shape) (now (key .entry)) (now (public_key .entry)) (now (salt .entry)) (now (root .entry)) (now (first .entry))
+        e second hidden (now (out .entry)) (now (work .entry)) .output ⌝ }
+    ensures { λ _. ⌜ now (work .exit)
+        ≡ openExecution (aesScheme shape) (now (key .entry)) (now (public_key .entry)) (now (salt .entry)) (now (root .entry)) (now (first .entry))
+        e second hidden (now (out .entry)) (now (work .entry)) .work ⌝ }
+{
     let mut inputs = [0u8; 200];
     let ciphertext = cipher::encrypt(key, &public_key[0..16], &mut inputs);
     let zero = cipher::first_zero(&inputs);
@@ -136,9 +238,6 @@ pub fn open(
     }
     let mut inverses = inputs;
     cipher::invert(&mut inverses);
-    let mut seeds = [0u8; 2048];
-    let end = sets::leaf_bytes(shape);
-    let rows = shape.parties * sets::row_length(shape);
     make(
         shape,
         key,
@@ -151,10 +250,120 @@ pub fn open(
         hidden,
         &inputs,
         &inverses,
-        &mut seeds[0..end],
-        &mut work[0..rows],
-        &mut out[0..2554],
+        out,
+        work,
     );
     slices::zero(&mut work[0..65536]);
     Answer::Accepted
+}
+
+// The call where lengths are right: 8, 9 and 10.
+fn open_ranges(
+    shape: Shape,
+    key: &[u8],
+    public_key: &[u8],
+    salt: &[u8],
+    root: &[u8],
+    first: &[u8],
+    e: usize,
+    second: u64,
+    hidden: usize,
+    out: &mut [u8],
+    work: &mut [u8],
+) -> Answer
+    requires { ⌜ Lengths shape (now key) (now public_key) (now salt) (now root) (now first)
+        × (second < 2 ^ (8 * shape .wide)) × (openingLength shape ≤ length (now out)) × (65536 ≤ length (now work)) ⌝ }
+    ensures { λ r. ⌜ r
+        ≡ openExecution (aesScheme shape) (now (key .entry)) (now (public_key .entry)) (now (salt .entry)) (now (root .entry)) (now (first .entry))
+        e second hidden (now (out .entry)) (now (work .entry)) .answer ⌝ }
+    ensures { λ _. ⌜ now (out .exit)
+        ≡ openExecution (aesScheme shape) (now (key .entry)) (now (public_key .entry)) (now (salt .entry)) (now (root .entry)) (now (first .entry))
+        e second hidden (now (out .entry)) (now (work .entry)) .output ⌝ }
+    ensures { λ _. ⌜ now (work .exit)
+        ≡ openExecution (aesScheme shape) (now (key .entry)) (now (public_key .entry)) (now (salt .entry)) (now (root .entry)) (now (first .entry))
+        e second hidden (now (out .entry)) (now (work .entry)) .work ⌝ }
+{
+    if e >= shape.executions {
+        return Answer::ExecutionRange;
+    }
+    if hidden >= shape.parties {
+        return Answer::HiddenPartyRange;
+    }
+    if second < (shape.m2 as u64) {
+        return Answer::SecondChallengeRange;
+    }
+    open_key(
+        shape,
+        key,
+        public_key,
+        salt,
+        root,
+        first,
+        e,
+        second,
+        hidden,
+        out,
+        work,
+    )
+}
+
+// The call, which refuses by lengths first.
+pub fn open(
+    shape: Shape,
+    key: &[u8],
+    public_key: &[u8],
+    salt: &[u8],
+    root: &[u8],
+    first: &[u8],
+    e: usize,
+    second: u64,
+    hidden: usize,
+    out: &mut [u8],
+    work: &mut [u8],
+) -> Answer
+    requires { ⌜ Valid shape × (second < 2 ^ (8 * shape .wide)) ⌝ }
+    ensures { λ r. ⌜ r
+        ≡ openExecution (aesScheme shape) (now (key .entry)) (now (public_key .entry)) (now (salt .entry)) (now (root .entry)) (now (first .entry))
+        e second hidden (now (out .entry)) (now (work .entry)) .answer ⌝ }
+    ensures { λ _. ⌜ now (out .exit)
+        ≡ openExecution (aesScheme shape) (now (key .entry)) (now (public_key .entry)) (now (salt .entry)) (now (root .entry)) (now (first .entry))
+        e second hidden (now (out .entry)) (now (work .entry)) .output ⌝ }
+    ensures { λ _. ⌜ now (work .exit)
+        ≡ openExecution (aesScheme shape) (now (key .entry)) (now (public_key .entry)) (now (salt .entry)) (now (root .entry)) (now (first .entry))
+        e second hidden (now (out .entry)) (now (work .entry)) .work ⌝ }
+{
+    if key.len() != 16 {
+        return Answer::KeyLength;
+    }
+    if public_key.len() != 32 {
+        return Answer::PublicKeyLength;
+    }
+    if salt.len() != 32 {
+        return Answer::SaltLength;
+    }
+    if first.len() != shape.m1 * shape.wide {
+        return Answer::SaltLength;
+    }
+    if root.len() != 16 {
+        return Answer::SeedLength;
+    }
+    if out.len() < opening_length(shape) {
+        return Answer::FileLength;
+    }
+    if work.len() < 65536 {
+        return Answer::WorkLength;
+    }
+    open_ranges(
+        shape,
+        key,
+        public_key,
+        salt,
+        root,
+        first,
+        e,
+        second,
+        hidden,
+        out,
+        work,
+    )
 }

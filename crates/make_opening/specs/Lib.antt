@@ -1,0 +1,2 @@
+-- The steps of opening an execution.
+pub mod Steps

@@ -1,0 +1,39 @@
+-- The steps of opening an execution: what each is given. Assumes nothing.
+use mathlib.Core.Path.{_≡_}
+use mathlib.Core.List.{List}
+use Prim.Native.Nat.{ℕ, _+_, _*_, _^_, _≤_, _<_}
+use lib.ListN.{length}
+use Rattle.slices.specs.Lists.{tab, rows}
+use Rattle.banquet.specs.declared.Shape.{Shape}
+use Rattle.banquet.specs.Shape.{workLength, firstChallengeLength, openingLength}
+use Rattle.banquet.specs.Scheme.{trueInverses}
+use Rattle.banquet.specs.Sets.{aesScheme}
+use Rattle.banquet.specs.Key.{frontOf}
+use Rattle.sets.specs.Valid.{Valid}
+use Rattle.forms.specs.Point.{near, rowAt}
+
+-- every length is right
+pub record Lengths (S : Shape) (key publicKey salt root first : List ℕ) : Type 0 where
+  pub valid : Valid S
+  pub key-size : length key ≡ 16
+  pub public-size : length publicKey ≡ 32
+  pub salt-size : length salt ≡ 32
+  pub root-size : length root ≡ 16
+  pub first-size : length first ≡ firstChallengeLength S
+
+-- and so are the numbers
+pub record Ranges (S : Shape) (e second hidden : ℕ) : Type 0 where
+  pub execution : e < S .executions
+  pub hidden-shown : hidden < S .parties
+  pub second-least : 20 ≤ second
+  pub second-wide : second < 2 ^ (8 * S .wide)
+
+-- the S-boxes' inputs and inverses under the key, and at the points 20 to 40 their rows and Lagrange's value for the extra point
+pub record Inverted (S : Shape) (key publicKey inputs inverses : List ℕ) : Type 0 where
+  pub inputs-is : inputs ≡ aesScheme S .circuit .sboxInputs (frontOf (aesScheme S) publicKey) key
+  pub inverses-is : inverses ≡ trueInverses (aesScheme S) (frontOf (aesScheme S) publicKey) key
+
+pub record AtPoints (S : Shape) (inputs inverses us vs lasts : List ℕ) : Type 0 where
+  pub us-is : us ≡ rows (λ k. tab (λ j. rowAt S inputs j (20 + k)) 10) 21
+  pub vs-is : vs ≡ rows (λ k. tab (λ j. rowAt S inverses j (20 + k)) 10) 21
+  pub lasts-is : lasts ≡ tab (λ k. near S (20 + k) 20) 21
