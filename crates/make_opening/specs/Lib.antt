@@ -1,2 +1,3 @@
 -- The steps of opening an execution.
 pub mod Steps
+pub mod Answers

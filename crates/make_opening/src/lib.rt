@@ -2,18 +2,20 @@
 use banquet::Answer;
 use banquet::Shape;
 ghost use mathlib.Core.Path.{_≡_};
-ghost use mathlib.Core.List.{_++_};
 ghost use Prim.Native.Nat.{_+_, _*_, _^_, _<_, _≤_};
-ghost use lib.ListN.{length, drop};
+ghost use lib.ListN.{length};
 ghost use Rattle.slices.specs.Layout.{total};
 ghost use Rattle.shake.specs.Shake128.{shake128};
 ghost use Rattle.banquet.specs.Shape.{openingLength, productPoints};
+ghost use Rattle.banquet.specs.declared.Answer.the-variants.{Accepted};
 ghost use Rattle.banquet.specs.Sets.{aesScheme};
+ghost use Rattle.banquet.specs.Answer.{outputAfter};
 ghost use Rattle.banquet.specs.Tree.{nodeSeeds, leaves};
 ghost use Rattle.banquet.specs.Opening.{opening};
 ghost use Rattle.banquet.specs.Calls.{openExecution};
 ghost use Rattle.sets.specs.Valid.{Valid};
 ghost use Rattle.sets.specs.Bounds.{rowSizes};
+ghost use Rattle.scratch.specs.Scratch.{Scratch};
 ghost use Rattle.make_opening.specs.Steps.{Lengths, Ranges, Inverted, AtPoints};
 
 // The opening into out, from the parties' seeds, the inverses and the rows at the points 20 to 40. The rows of shares are scratch.
@@ -166,9 +168,9 @@ fn make(
         × Ranges shape e second hidden × Inverted shape (now key) (now public_key) (now inputs) (now inverses)
         × (openingLength shape ≤ length (now out)) × (65536 ≤ length (now work)) ⌝ }
     ensures { λ _. ⌜ now (out .exit)
-        ≡ opening (aesScheme shape) (now (key .entry)) (now (public_key .entry)) (now (salt .entry)) (now (root .entry)) (now (first .entry)) e second hidden
-        ++ drop (openingLength shape) (now (out .entry)) ⌝ }
-    ensures { λ _. ⌜ (length (now (work .exit)) ≡ length (now (work .entry))) × (drop 65536 (now (work .exit)) ≡ drop 65536 (now (work .entry))) ⌝ }
+        ≡ outputAfter Accepted (opening (aesScheme shape) (now (key .entry)) (now (public_key .entry)) (now (salt .entry)) (now (root .entry))
+        (now (first .entry)) e second hidden) (now (out .entry)) ⌝ }
+    ensures { λ _. ⌜ Scratch (now (work .entry)) (now (work .exit)) ⌝ }
 {
     let mut seeds = [0u8; 2048];
     let end = sets::leaf_bytes(shape);
@@ -253,7 +255,7 @@ fn open_key(
         out,
         work,
     );
-    slices::zero(&mut work[0..65536]);
+    scratch::clear(work);
     Answer::Accepted
 }
 

@@ -1,0 +1,2 @@
+-- The work slice as scratch.
+pub mod Scratch
