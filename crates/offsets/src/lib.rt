@@ -6,7 +6,6 @@ ghost use Prim.Native.Nat.{_+_, _*_, _^_, _<_};
 ghost use lib.ListN.{length, getD};
 ghost use lib.Bits.{bitXor};
 ghost use Rattle.slices.specs.Lists.{tab, rows as rowsOf, row};
-ghost use Rattle.slices.specs.Bytes.{Bytes};
 ghost use Rattle.sets.specs.Valid.{Valid};
 ghost use Rattle.forms.specs.Point.{near, rowAt, productValue};
 

@@ -1,7 +1,7 @@
 // The numbers of one execution: Lagrange's values at a point with their tables, and the values there of S_j and T_j.
 use banquet::Shape;
 ghost use mathlib.Core.Path.{_≡_};
-ghost use Prim.Native.Nat.{_+_, _*_, _^_, _<_, _≤_};
+ghost use Prim.Native.Nat.{_+_, _*_, _^_, _<_};
 ghost use lib.ListN.{length, getD};
 ghost use Rattle.slices.specs.Lists.{tab};
 ghost use Rattle.sets.specs.Valid.{Valid};

@@ -1,6 +1,7 @@
 -- `opened::far_values` meets its contract: the field is one of two. Assumes nothing.
 use mathlib.Core.Path.{ap}
 use Prim.Native.Nat.{suc, _*_}
+use native.Mathlib.Omega.{arith}
 use borrow.Author.Needs.{needs}
 use Rattle.opened.proofs.Laws.{below32, below48, values32, values48}
 use Rattle.opened.proofs.far_values.Statement.{statement}
@@ -9,12 +10,12 @@ use Rattle.opened.proofs.far_values.Tie as tie
 values32-requires : tie.Need-values32-41-requires
 values32-requires c κs =
     let s = c .before .before .before .before in
-    (below32 (s .pre .0) (s .args .x) (c .before .if1 .taken) (s .pre .1), s .pre .2)
+    (omega (arith, below32 (s .pre .0) (s .args .x) (c .before .if1 .taken) (s .pre .1)), s .pre .2)
 
 values48-requires : tie.Need-values48-41-requires
 values48-requires c κs =
     let s = c .before .before .before .before in
-    (below48 (s .pre .0) (s .args .x) (c .before .if1 .left) (s .pre .1), s .pre .2)
+    (omega (arith, below48 (s .pre .0) (s .args .x) (c .before .if1 .left) (s .pre .1)), s .pre .2)
 
 returns : tie.Need-returns
 returns c =

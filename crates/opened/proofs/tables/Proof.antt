@@ -1,7 +1,6 @@
 -- `opened::tables` meets its contract. Assumes nothing.
-use mathlib.Core.Path.{sym, ap, _∙_}
-use Prim.Native.Nat.{_*_}
-use lib.ListN.{length, getD, take}
+use mathlib.Core.Path.{ap, _∙_}
+use lib.ListN.{length, getD}
 use borrow.Author.Needs.{needs}
 use Rattle.sets.specs.Laws.{wide-field}
 use Rattle.opened.proofs.Laws.{tables-right}
@@ -14,7 +13,7 @@ tables-requires c κs =
     let n = p .before .before in
     let s = n .before .before .before .before in
     let w = wide-field (s .pre .0) in
-    (w .fits, ap length (p .powers .ensures) ∙ w .eight, s .pre .2 ∙ ap (λ l. length (take 20 l) * 32) (sym (n .near-values .ensures)))
+    (w .fits, ap length (p .powers .ensures) ∙ w .eight, search needs)
 
 returns : tie.Need-returns
 returns c =
