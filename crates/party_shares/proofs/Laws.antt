@@ -23,7 +23,7 @@ use Rattle.banquet.specs.Execution.{Committed, tapePart, tapeS, tapeT, keyShare
 use Rattle.sets.specs.Valid.{Valid}
 use Rattle.sets.specs.Bounds.{tape-most, by-points, by-ten}
 use Rattle.forms.specs.Point.{tabledRow, valueS, valueT}
-use Rattle.forms.specs.Party.{committed, own, ownProducts, workedC, workedA, workedB}
+use Rattle.forms.specs.Party.{committed, own, ownProducts, workedC, workedA, workedB, workedRow}
 
 -- ---- a party's own shares
 
@@ -153,17 +153,33 @@ module _ {S : Shape} (v : Valid S) where
         rows-cong m1
         (λ j l. ap (λ s. bytesOf wide (valueT S (tabledRow S inverses tables j) s last)) (extra-at (2 * j + 1) (omega (arith, v .ten))))
 
--- ---- a row: 16 elements, then w, then all the rest, each written in its place
+  -- ---- all of them
 
-pub put-row : (w : ℕ) (d b : List ℕ) {k : ℕ} {y y′ s z z′ : List ℕ} → length d ≡ 16 + w + k → y ≡ y′ → length y′ ≡ 16 → length b ≡ w
-    → s ≡ put (putMid 0 16 d y) 16 b → length s ≡ length d → z ≡ z′ → length z′ ≡ k
-    → putMid (16 + w) (length s - (16 + w)) s z ≡ y′ ++ (b ++ z′)
-put-row w d b {k} {y} {y′} {s} {z} {z′} l e h m p same f n =
-    let first : putMid 0 16 d y ≡ put d 0 y′ = put-mid 0 16 d y y′ e (sym h) in
-    let one = wrote-more y′ (wrote-none d) h first (ap length first ∙ length-put d 0 y′ (omega arith)) in
+  module _ (front key inverse product first far : List ℕ) (given : ℕ) (tables : List ℕ) (last i : ℕ) (t : List ℕ) where
+    abbrev x′ : Committed
+    x′ = committed front key inverse
+
+    pub row-is : {y inverses inputs z : List ℕ} {c : ℕ} → y ≡ outputShare (aesScheme S) x′ i t → inverses ≡ inverseShares (aesScheme S) x′ i t
+        → inputs ≡ inputShares (aesScheme S) x′ i t → c ≡ workedC S product far given i t
+        → z ≡ numbers wide m1 (workedA S first tables last t inputs) ++ numbers wide m1 (workedB S first tables last t inverses)
+        → y ++ (bytesOf wide c ++ z) ≡ workedRow S x′ product first far given tables last i t
+    unfolding workedRow
+    row-is {y} {inverses} {inputs} {z} {c} e f g h k =
+        ap₂ _++_ e
+        (ap₂ (λ c z. bytesOf wide c ++ z) h
+        (k ∙ ap₂ (λ u v. numbers wide m1 (workedA S first tables last t u) ++ numbers wide m1 (workedB S first tables last t v)) g f))
+
+-- ---- a row: 16 elements y, then w, then all the rest, each written in its place
+
+pub put-row : (w : ℕ) (d y b z : List ℕ) {k : ℕ} {s : List ℕ} → length d ≡ 16 + w + k → length y ≡ 16 → length b ≡ w
+    → s ≡ put (putMid 0 16 d y) 16 b → length s ≡ length d → length z ≡ k
+    → putMid (16 + w) (length s - (16 + w)) s z ≡ y ++ (b ++ z)
+put-row w d y b z {k} {s} l h m p same n =
+    let first : putMid 0 16 d y ≡ put d 0 y = put-mid 0 16 d y y refl (sym h) in
+    let one = wrote-more y (wrote-none d) h first (ap length first ∙ length-put d 0 y (omega arith)) in
     let two = wrote-more b one m p (same ∙ sym (one .long)) in
-    let third : putMid (16 + w) (length s - (16 + w)) s z ≡ put s (16 + w) z′ =
-        put-mid (16 + w) (length s - (16 + w)) s z z′ f (omega arith) in
-    let three = wrote-more z′ two n third (ap length third ∙ length-put s (16 + w) z′ (omega arith)) in
+    let third : putMid (16 + w) (length s - (16 + w)) s z ≡ put s (16 + w) z =
+    put-mid (16 + w) (length s - (16 + w)) s z z refl (omega arith) in
+    let three = wrote-more z two n third (ap length third ∙ length-put s (16 + w) z (omega arith)) in
     let none : length d ≤ 16 + w + k = omega arith in
-    wrote-all three ∙ ap (((y′ ++ b) ++ z′) ++_) (drop-of-length-le d none) ∙ append-nil ((y′ ++ b) ++ z′) ∙ append-assoc y′ b z′
+    wrote-all three ∙ ap (((y ++ b) ++ z) ++_) (drop-of-length-le d none) ∙ append-nil ((y ++ b) ++ z) ∙ append-assoc y b z

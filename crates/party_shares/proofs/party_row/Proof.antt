@@ -1,110 +1,100 @@
+-- `party_shares::party_row` meets its contract: the shares are written one after the other. Assumes nothing.
+use mathlib.Core.Path.{_≡_, refl, _∙_}
+use mathlib.Core.List.{List}
+use Prim.Native.Nat.{ℕ, _+_, _*_}
+use native.Mathlib.Omega.{arith}
+use lib.ListN.{length}
+use lib.Seq.{length-take-le}
 use borrow.Author.Needs.{needs}
+use borrow.Rule.Slice.PartMut.{putMid, same-len-mid}
+use Rattle.slices.specs.Numbers.{bytesOf, length-bytesOf}
+use Rattle.sets.specs.Bounds.{row-total}
+use Rattle.party_shares.proofs.Laws.{rest-long, row-is, put-row}
 use Rattle.party_shares.proofs.party_row.Statement.{statement}
 use Rattle.party_shares.proofs.party_row.Tie as tie
-use Rattle.party_shares.proofs.party_row.Reads as reads
-use Rattle.party_shares.proofs.party_row.Lts as lts
-use Rattle.numbers.proofs.store.Reads as store-reads
-use Rattle.party_shares.proofs.opened_c.Reads as opened-c-reads
-use Rattle.party_shares.proofs.opened_row.Reads as opened-row-reads
-use Rattle.party_shares.proofs.walk.Reads as walk-reads
-use Rattle.slices.proofs.copy.Reads as copy-reads
 
--- src/lib.rt:210:9
-slice-aggregate-walk : tie.Need-slice-aggregate-walk
-slice-aggregate-walk c = search needs
+abbrev start : tie.After-store-arg → tie.Start
+start c = c .before .before .before .before .before .before .before .before .before .before .before .before .before .before .before .before .before .before .before .before .before
 
--- src/lib.rt:211:9
-slice-aggregate-walk-2 : tie.Need-slice-aggregate-walk-2
-slice-aggregate-walk-2 c = search needs
+abbrev wide : tie.After-store-arg → ℕ
+wide c = start c .args .shape .wide
 
--- src/lib.rt:203:18
-walk-requires : tie.Need-walk-requires
-walk-requires c κs = search needs
+abbrev lent : tie.After-store-arg → List ℕ
+lent c = start c .args .out .now
 
--- src/lib.rt:213:18
-sub-copy : tie.Need-sub-copy
-sub-copy c = search needs
+abbrev output : tie.After-store-arg → List ℕ
+output c = c .before .before .before .before .copy .last .0
 
--- src/lib.rt:213:18
-part-copy-start : tie.Need-part-copy-start
-part-copy-start c = search needs
+-- before c is stored, the output's share being in its place
+module _ (c : tie.After-store-arg) where
+  size : length (lent c) ≡ 16 + wide c + 20 * wide c
+  size = omega (arith, start c .pre .2, row-total (start c .pre .0 .valid))
 
--- src/lib.rt:213:18
-part-copy-end : tie.Need-part-copy-end
-part-copy-end c = search needs
+  copied : length (output c) ≡ 16
+  copied = c .before .before .before .before .copy .kept .0 ∙ length-take-le 16 (lent c) (omega (arith, size))
 
--- src/lib.rt:213:35
-slice-aggregate-copy : tie.Need-slice-aggregate-copy
-slice-aggregate-copy c = search needs
+  room : length (putMid 0 16 (lent c) (output c)) ≡ length (lent c)
+  room = same-len-mid 0 16 (lent c) (output c) (c .before .before .before .before .copy .kept .0)
 
--- src/lib.rt:213:5
-copy-requires : tie.Need-copy-requires
-copy-requires c κs = search needs
+-- c is stored
+module _ (c : tie.After-store) where
+  same : length (c .store .last .0) ≡ length (lent (c .before))
+  same = c .store .kept .0 ∙ room (c .before)
 
--- src/lib.rt:214:9
-opened-c-requires : tie.Need-opened-c-requires
-opened-c-requires c κs = search needs
+  long : length (c .store .last .0) ≡ 16 + wide (c .before) + 20 * wide (c .before)
+  long = same ∙ size (c .before)
 
--- src/lib.rt:215:5
 store-requires : tie.Need-store-requires
-store-requires c κs = ?
+store-requires c κs = (omega (arith, start c .pre .0 .valid .wide-most), omega (arith, size c, room c))
 
--- src/lib.rt:216:14
 add-at : tie.Need-add-at
-add-at c = ?
+add-at c = omega (arith, start (c .before .before .before .before) .pre .0 .valid .wide-most)
 
--- src/lib.rt:223:9
-slice-aggregate-opened-row : tie.Need-slice-aggregate-opened-row
-slice-aggregate-opened-row c = search needs
-
--- src/lib.rt:224:9
-slice-aggregate-opened-row-2 : tie.Need-slice-aggregate-opened-row-2
-slice-aggregate-opened-row-2 c = search needs
-
--- src/lib.rt:226:9
 sub-opened-row : tie.Need-sub-opened-row
-sub-opened-row c = ?
+sub-opened-row c = omega (arith, long (c .before .before .before .before .before))
 
--- src/lib.rt:226:9
 part-opened-row-start : tie.Need-part-opened-row-start
-part-opened-row-start c = ?
+part-opened-row-start c = omega (arith, long (c .before .before .before .before .before))
 
--- src/lib.rt:226:9
-part-opened-row-end : tie.Need-part-opened-row-end
-part-opened-row-end c = search needs
-
--- src/lib.rt:218:5
 opened-row-requires : tie.Need-opened-row-requires
-opened-row-requires c κs = ?
+opened-row-requires c κs =
+    let k = c .before .before .before .before .before .before in
+    let s = start (k .before) in
+    let g = s .pre .0 in
+    let l = k .store .last .0 in
+    let w = c .before .before .before .before .before .before .before .before .before .before .before .before .before .before .before .before .walk in (
+      g .valid,
+      g .first-size,
+      g .tables-size,
+      w .kept .1 .1 .1 .1 .1 .1 .1 .0,
+      w .kept .1 .1 .1 .1 .1 .1 .0,
+      s .pre .1,
+      rest-long l l (16 + s .args .shape .wide) refl (long k),
+    )
 
--- src/lib.rt:180:1
-same-length : tie.Need-same-length
-same-length c = search needs
-
--- src/lib.rt:180:1
 returns : tie.Need-returns
-returns c = ?
+returns c =
+    let r = c .before .before in
+    let k = r .before .before .before .before .before .before .before in
+    let o = k .before .before in
+    let y = o .before .before .before in
+    let w = y .before .before .before .before .before in
+    let s = start (k .before) in
+    let a = s .args in
+    let n = a .shape .wide in
+    let l = k .store .last .0 in
+    let b = bytesOf n (o .opened-c .result) in
+    let z = r .opened-row .last .1 .1 .1 .1 .1 .1 .1 .0 in
+    let all = rest-long l l (16 + n) refl (long k) in
+    put-row n (a .out .now) (y .copy .last .0) b z (size (k .before)) (copied (k .before)) (length-bytesOf n (o .opened-c .result)) (k .store .ensures)
+    (same k) (r .opened-row .kept .1 .1 .1 .1 .1 .1 .1 .0 ∙ all)
+    ∙ row-is (s .pre .0 .valid) (a .front .now) (a .key .now) (a .inverse .now) (a .product .now) (a .first .now) (a .far .now) (a .given)
+    (a .tables .now) (a .last) (a .i) (a .tape .now) (y .copy .ensures ∙ w .walk .ensures .0) (w .walk .ensures .1 .0) (w .walk .ensures .1 .1)
+    (o .opened-c .ensures) (r .opened-row .ensures)
 
 pub party-row-spec : {M : Type 1} → statement M
 party-row-spec =
     tie.close
-    (tie.spec
-    slice-aggregate-walk
-    slice-aggregate-walk-2
-    walk-requires
-    sub-copy
-    part-copy-start
-    part-copy-end
-    slice-aggregate-copy
-    copy-requires
-    opened-c-requires
-    store-requires
-    add-at
-    slice-aggregate-opened-row
-    slice-aggregate-opened-row-2
-    sub-opened-row
-    part-opened-row-start
-    part-opened-row-end
-    opened-row-requires
-    same-length
-    returns)
+    (tie.spec (λ c. search needs) (λ c. search needs) (λ c κs. search needs) (λ c. search needs) (λ c. search needs)
+    (λ c. search needs) (λ c. search needs) (λ c κs. search needs) (λ c κs. search needs) store-requires add-at (λ c. search needs)
+    (λ c. search needs) sub-opened-row part-opened-row-start (λ c. search needs) opened-row-requires (λ c. search needs) returns)
