@@ -27,11 +27,10 @@ fn byte_offsets(
     ensures { λ _. ⌜ now (key_offset .exit) ≡ zipXor (now (key .entry)) (tapePart (aesScheme shape) 0 (now (sum .entry))) ⌝ }
     ensures { λ _. ⌜ now (inverse_offsets .exit) ≡ zipXor (now (inverses .entry)) (tapePart (aesScheme shape) 1 (now (sum .entry))) ⌝ }
 {
-    let sizes = sets::tape_sizes(shape);
     slices::copy(key_offset, key);
-    slices::xor_into(key_offset, fields::field(&sizes, 0, sum));
+    slices::xor_into(key_offset, party_shares::tape_part(shape, 0, sum));
     slices::copy(inverse_offsets, inverses);
-    slices::xor_into(inverse_offsets, fields::field(&sizes, 1, sum));
+    slices::xor_into(inverse_offsets, party_shares::tape_part(shape, 1, sum));
 }
 
 // The product offsets, from the rows and Lagrange's values at the points 20 to 40.
@@ -49,13 +48,20 @@ fn wide_offsets(
     ensures { λ _. ⌜ now (out .exit)
         ≡ workedOffsets shape (now (us .entry)) (now (vs .entry)) (now (lasts .entry)) (now (sum .entry)) (now (first .entry)) ⌝ }
 {
-    let sizes = sets::tape_sizes(shape);
     let mut draws = [0u64; 10];
     elements::load(shape.wide, first, &mut draws);
     let mut extra = [0u64; 20];
-    elements::load(shape.wide, fields::field(&sizes, 2, sum), &mut extra);
+    elements::load(
+        shape.wide,
+        party_shares::tape_part(shape, 2, sum),
+        &mut extra,
+    );
     let mut shares = [0u64; 21];
-    elements::load(shape.wide, fields::field(&sizes, 3, sum), &mut shares);
+    elements::load(
+        shape.wide,
+        party_shares::tape_part(shape, 3, sum),
+        &mut shares,
+    );
     let mut values = [0u64; 21];
     offsets::products(shape, &draws, &extra, &shares, us, vs, lasts, &mut values);
     elements::store(shape.wide, &values, out);
