@@ -128,15 +128,7 @@ pub fn write(
     let end = out.len();
     write_head(shape, salt, e, seeds, &mut out[0..a]);
     column(shape.parties, stride, 0, 16, rows, &mut out[a..b]);
-    write_middle(
-        shape,
-        key,
-        inverse,
-        first,
-        product,
-        second,
-        &mut out[b..c],
-    );
+    write_middle(shape, key, inverse, first, product, second, &mut out[b..c]);
     write_opened(shape, rows, &mut out[c..d]);
     write_tail(shape, salt, e, root, hidden, &mut out[d..end]);
 }

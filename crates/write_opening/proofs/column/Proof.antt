@@ -47,8 +47,7 @@ loop-again : tie.Need-loop-again Inv-loop μ-loop
 loop-again c =
     let k = c .before .before .copy-at in
     let t = c .before .before .before .before .before in
-    let g = s t .args in
-    (
+    let g = s t .args in (
       omega arith,
       stacking-more (t .before .loop .inv .1) (cell-long (g .stride) (g .at) (g .len) (i t) (g .rows .now) (read t))
           (cell-cut (g .stride) (g .at) (g .len) (i t) (g .rows .now) (s t .pre .1)) (write t) (k .ensures),
