@@ -40,28 +40,28 @@ fn write_head(shape: Shape, salt: &[u8], e: u8, seeds: &[u8], out: &mut [u8])
     party::hash_rows(0, salt, e, shape.parties, 32, seeds, &mut out[33..end]);
 }
 
-// "key offset 16, inverse offsets 200, r 40, product offsets 84, R 4"
+// "key offset 16, inverse offsets 200, r 40, product offsets 84, R 4"; key, inverse and product are these offsets.
 fn write_middle(
     shape: Shape,
-    key_offset: &[u8],
-    inverse_offsets: &[u8],
+    key: &[u8],
+    inverse: &[u8],
     first: &[u8],
-    product_offsets: &[u8],
+    product: &[u8],
     second: u64,
     out: &mut [u8],
 )
-    requires { ⌜ Valid shape × (length (now key_offset) ≡ 16) × (length (now inverse_offsets) ≡ 200)
-        × (length (now first) ≡ firstChallengeLength shape) × (length (now product_offsets) ≡ productPoints shape * shape .wide)
+    requires { ⌜ Valid shape × (length (now key) ≡ 16) × (length (now inverse) ≡ 200)
+        × (length (now first) ≡ firstChallengeLength shape) × (length (now product) ≡ productPoints shape * shape .wide)
         × (length (now out) ≡ 216 + 32 * shape .wide) ⌝ }
     ensures { λ _. ⌜ now (out .exit)
-        ≡ middle shape (now (key_offset .entry)) (now (inverse_offsets .entry)) (now (first .entry)) (now (product_offsets .entry)) second ⌝ }
+        ≡ middle shape (now (key .entry)) (now (inverse .entry)) (now (first .entry)) (now (product .entry)) second ⌝ }
 {
     let p = 216 + first.len();
-    let q = p + product_offsets.len();
-    slices::copy_at(out, 0, key_offset);
-    slices::copy_at(out, 16, inverse_offsets);
+    let q = p + product.len();
+    slices::copy_at(out, 0, key);
+    slices::copy_at(out, 16, inverse);
     slices::copy_at(out, 216, first);
-    slices::copy_at(out, p, product_offsets);
+    slices::copy_at(out, p, product);
     numbers::store(out, q, shape.wide, second);
 }
 
@@ -95,7 +95,7 @@ fn write_tail(shape: Shape, salt: &[u8], e: u8, root: &[u8], hidden: usize, out:
     tree::sibling_seeds(shape.depth, salt, e, 0, root, hidden, &mut out[1..end]);
 }
 
-// The whole opening, where rows has each party's shares of the output, of c, a and b.
+// The whole opening, where rows has each party's shares of the output, of c, a and b; key, inverse and product are the offsets.
 pub fn write(
     shape: Shape,
     salt: &[u8],
@@ -103,21 +103,21 @@ pub fn write(
     root: &[u8],
     hidden: usize,
     seeds: &[u8],
-    key_offset: &[u8],
-    inverse_offsets: &[u8],
+    key: &[u8],
+    inverse: &[u8],
     first: &[u8],
-    product_offsets: &[u8],
+    product: &[u8],
     second: u64,
     rows: &[u8],
     out: &mut [u8],
 )
     requires { ⌜ Valid shape × (length (now salt) ≡ 32) × (length (now root) ≡ 16) × (hidden < 256)
-        × (shape .parties * 16 ≤ length (now seeds)) × (length (now key_offset) ≡ 16) × (length (now inverse_offsets) ≡ 200)
-        × (length (now first) ≡ firstChallengeLength shape) × (length (now product_offsets) ≡ productPoints shape * shape .wide)
+        × (shape .parties * 16 ≤ length (now seeds)) × (length (now key) ≡ 16) × (length (now inverse) ≡ 200)
+        × (length (now first) ≡ firstChallengeLength shape) × (length (now product) ≡ productPoints shape * shape .wide)
         × (length (now rows) ≡ shape .parties * total (rowSizes shape)) × (length (now out) ≡ openingLength shape) ⌝ }
     ensures { λ _. ⌜ now (out .exit)
-        ≡ written shape (now (salt .entry)) e (now (root .entry)) hidden (now (seeds .entry)) (now (key_offset .entry))
-        (now (inverse_offsets .entry)) (now (first .entry)) (now (product_offsets .entry)) second (now (rows .entry)) ⌝ }
+        ≡ written shape (now (salt .entry)) e (now (root .entry)) hidden (now (seeds .entry)) (now (key .entry))
+        (now (inverse .entry)) (now (first .entry)) (now (product .entry)) second (now (rows .entry)) ⌝ }
 {
     let sizes = sets::transcript_sizes(shape);
     let stride = sets::row_length(shape);
@@ -128,15 +128,7 @@ pub fn write(
     let end = out.len();
     write_head(shape, salt, e, seeds, &mut out[0..a]);
     column(shape.parties, stride, 0, 16, rows, &mut out[a..b]);
-    write_middle(
-        shape,
-        key_offset,
-        inverse_offsets,
-        first,
-        product_offsets,
-        second,
-        &mut out[b..c],
-    );
+    write_middle(shape, key, inverse, first, product, second, &mut out[b..c]);
     write_opened(shape, rows, &mut out[c..d]);
     write_tail(shape, salt, e, root, hidden, &mut out[d..end]);
 }

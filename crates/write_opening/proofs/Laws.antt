@@ -1,0 +1,68 @@
+-- Parts of rows, and a slice written part by part, each lent to a call. Assumes nothing.
+use mathlib.Core.Path.{_≡_, refl, sym, ap, ap₂, subst, _∙_}
+use mathlib.Core.List.{List, [], _∷_, _++_, append-nil, append-assoc}
+use Prim.Native.Nat.{ℕ, zero, suc, _+_, _-_, _*_, _≤_, _<_}
+use native.Mathlib.Omega.{arith}
+use lib.ListN.{length, take, drop, set, length-append, length-take, length-drop, length-set, drop-of-length-le}
+use lib.Seq.{take-take, drop-drop, drop-at, set-split, length-take-le}
+use borrow.Rule.Slice.PartMut.{putMid, same-len-mid}
+use Rattle.slices.specs.Lists.{row, part}
+use Rattle.slices.proofs.Put.{Wrote, front, wrote-more, wrote-all, put-mid}
+
+-- ---- of row i the len elements from index at on
+
+-- a part of a front
+part-take : (at len n : ℕ) (s : List ℕ) → at + len ≤ n → part at len (take n s) ≡ part at len s
+part-take zero len n s h = take-take len n s (omega arith)
+part-take (suc at) len zero s h = absurd (omega arith)
+part-take (suc at) len (suc n) [] h = refl
+part-take (suc at) len (suc n) (x ∷ s) h = part-take at len n s (omega arith)
+
+-- a part of a part
+part-part : (at len from n : ℕ) (s : List ℕ) → at + len ≤ n → part at len (part from n s) ≡ part (from + at) len s
+part-part at len from n s h = part-take at len n (drop from s) h ∙ ap (take len) (drop-drop at from s)
+
+-- what the code writes `&s[i * stride + at..i * stride + at + len]`
+pub cell-cut : (stride at len i : ℕ) (s : List ℕ) → at + len ≤ stride
+    → take (i * stride + at + len - (i * stride + at)) (drop (i * stride + at) s) ≡ part at len (row stride i s)
+cell-cut stride at len i s h =
+    let e : i * stride + at + len - (i * stride + at) ≡ len = omega arith in
+    rw e (sym (part-part at len (i * stride) stride s h))
+
+pub cell-long : (stride at len i : ℕ) (s : List ℕ) → i * stride + at + len ≤ length s
+    → length (take (i * stride + at + len - (i * stride + at)) (drop (i * stride + at) s)) ≡ len
+cell-long stride at len i s h = simp (length-take, length-drop) (omega arith)
+
+-- ---- the first n elements are written, and the part up to m is lent
+
+pub lent-long : {d p l : List ℕ} {n : ℕ} (m : ℕ) → Wrote d p n l → m ≤ length d → length (take (m - n) (drop n l)) ≡ m - n
+lent-long {d} {p} {l} {n} m w h = length-take-le (m - n) (drop n l) (omega (arith, length-drop n l, w .long))
+
+-- it comes back as y
+pub wrote-lent : (s : List ℕ) {d p l y : List ℕ} {n : ℕ} (m : ℕ) → Wrote d p n l → n ≤ m → m ≤ length d → y ≡ s
+    → length y ≡ length (take (m - n) (drop n l)) → Wrote d (p ++ s) m (putMid n (m - n) l y)
+wrote-lent s {d} {p} {l} {y} {n} m w k h e kept =
+    let long : length s ≡ m - n = ap length (sym e) ∙ kept ∙ lent-long m w h in
+    let end : n + (m - n) ≡ m = omega arith in
+    subst (λ (j : ℕ). Wrote d (p ++ s) j (putMid n (m - n) l y)) end
+    (wrote-more s w long (put-mid n (m - n) l y s e (sym long)) (same-len-mid n (m - n) l y kept))
+
+-- the next element was stored before
+pub wrote-stored : (x : ℕ) {d p l : List ℕ} {n : ℕ} → Wrote (set d n x) p n l → n < length d → Wrote d (p ++ (x ∷ [])) (suc n) l
+unfolding front
+wrote-stored x {d} {p} {l} {n} w h =
+    record {
+      is = wrote-all w ∙ ap (p ++_) rest ∙ sym (append-assoc p (x ∷ []) (drop (suc n) d)) ∙ ap (λ (j : ℕ). (p ++ (x ∷ [])) ++ drop j d) (sym size);
+      size = size;
+      long = w .long ∙ length-set d n x;
+    }
+  where
+    rest : drop n (set d n x) ≡ x ∷ drop (suc n) d
+    rest = ap (drop n) (set-split d n x h) ∙ drop-at (take n d) (x ∷ drop (suc n) d) n (length-take-le n d (omega arith))
+
+    size : length (p ++ (x ∷ [])) ≡ suc n
+    size = length-append p (x ∷ []) ∙ omega (arith, w .size)
+
+-- all elements are written
+pub wrote-whole : {d p l : List ℕ} {n : ℕ} → Wrote d p n l → length d ≤ n → l ≡ p
+wrote-whole {d} {p} {l} {n} w h = wrote-all w ∙ ap (p ++_) (drop-of-length-le d h) ∙ append-nil p
