@@ -22,7 +22,7 @@ ghost use Rattle.make_opening.specs.Steps.{Lengths, Ranges, Inverted, At
 fn make_shares(
     shape: Shape,
     key: &[u8],
-    public_key: &[u8],
+    public: &[u8],
     salt: &[u8],
     root: &[u8],
     first: &[u8],
@@ -39,14 +39,14 @@ fn make_shares(
     rows: &mut [u8],
     out: &mut [u8],
 )
-    requires { ⌜ Lengths shape (now key) (now public_key) (now salt) (now root) (now first)
-        × Ranges shape e second hidden × Inverted shape (now key) (now public_key) (now inputs) (now inverses)
+    requires { ⌜ Lengths shape (now key) (now public) (now salt) (now root) (now first)
+        × Ranges shape e second hidden × Inverted shape (now key) (now public) (now inputs) (now inverses)
         × AtPoints shape (now inputs) (now inverses) (now us) (now vs) (now lasts)
         × (now seeds ≡ nodeSeeds (leaves shake128 (now salt) e (shape .depth) 0 (now root)))
         × (length (now products) ≡ productPoints shape * shape .wide) × (length (now rows) ≡ shape .parties * total (rowSizes shape))
         × (length (now out) ≡ openingLength shape) ⌝ }
     ensures { λ _. ⌜ now (out .exit)
-        ≡ opening (aesScheme shape) (now (key .entry)) (now (public_key .entry)) (now (salt .entry)) (now (root .entry)) (now (first .entry)) e second hidden ⌝ }
+        ≡ opening (aesScheme shape) (now (key .entry)) (now (public .entry)) (now (salt .entry)) (now (root .entry)) (now (first .entry)) e second hidden ⌝ }
 {
     let mut key_offset = [0u8; 16];
     let mut inverse_offsets = [0u8; 200];
@@ -70,7 +70,7 @@ fn make_shares(
         salt,
         e,
         seeds,
-        &public_key[0..16],
+        &public[0..16],
         &key_offset,
         &inverse_offsets,
         first,
@@ -99,7 +99,7 @@ fn make_shares(
 fn make_rows(
     shape: Shape,
     key: &[u8],
-    public_key: &[u8],
+    public: &[u8],
     salt: &[u8],
     root: &[u8],
     first: &[u8],
@@ -112,12 +112,12 @@ fn make_rows(
     rows: &mut [u8],
     out: &mut [u8],
 )
-    requires { ⌜ Lengths shape (now key) (now public_key) (now salt) (now root) (now first)
-        × Ranges shape e second hidden × Inverted shape (now key) (now public_key) (now inputs) (now inverses)
+    requires { ⌜ Lengths shape (now key) (now public) (now salt) (now root) (now first)
+        × Ranges shape e second hidden × Inverted shape (now key) (now public) (now inputs) (now inverses)
         × (length (now seeds) ≡ 16 * 2 ^ shape .depth) × (length (now rows) ≡ shape .parties * total (rowSizes shape))
         × (length (now out) ≡ openingLength shape) ⌝ }
     ensures { λ _. ⌜ now (out .exit)
-        ≡ opening (aesScheme shape) (now (key .entry)) (now (public_key .entry)) (now (salt .entry)) (now (root .entry)) (now (first .entry)) e second hidden ⌝ }
+        ≡ opening (aesScheme shape) (now (key .entry)) (now (public .entry)) (now (salt .entry)) (now (root .entry)) (now (first .entry)) e second hidden ⌝ }
 {
     tree::expand(shape.depth, salt, e, 0, root, seeds);
     let mut us = [0u64; 210];
@@ -129,7 +129,7 @@ fn make_rows(
     make_shares(
         shape,
         key,
-        public_key,
+        public,
         salt,
         root,
         first,
@@ -152,7 +152,7 @@ fn make_rows(
 fn make(
     shape: Shape,
     key: &[u8],
-    public_key: &[u8],
+    public: &[u8],
     salt: &[u8],
     root: &[u8],
     first: &[u8],
@@ -164,11 +164,11 @@ fn make(
     out: &mut [u8],
     work: &mut [u8],
 )
-    requires { ⌜ Lengths shape (now key) (now public_key) (now salt) (now root) (now first)
-        × Ranges shape e second hidden × Inverted shape (now key) (now public_key) (now inputs) (now inverses)
+    requires { ⌜ Lengths shape (now key) (now public) (now salt) (now root) (now first)
+        × Ranges shape e second hidden × Inverted shape (now key) (now public) (now inputs) (now inverses)
         × (openingLength shape ≤ length (now out)) × (65536 ≤ length (now work)) ⌝ }
     ensures { λ _. ⌜ now (out .exit)
-        ≡ outputAfter Accepted (opening (aesScheme shape) (now (key .entry)) (now (public_key .entry)) (now (salt .entry)) (now (root .entry))
+        ≡ outputAfter Accepted (opening (aesScheme shape) (now (key .entry)) (now (public .entry)) (now (salt .entry)) (now (root .entry))
         (now (first .entry)) e second hidden) (now (out .entry)) ⌝ }
     ensures { λ _. ⌜ Scratch (now (work .entry)) (now (work .exit)) ⌝ }
 {
@@ -179,7 +179,7 @@ fn make(
     make_rows(
         shape,
         key,
-        public_key,
+        public,
         salt,
         root,
         first,
@@ -207,7 +207,7 @@ fn opening_length(shape: Shape) -> usize
 fn open_key(
     shape: Shape,
     key: &[u8],
-    public_key: &[u8],
+    public: &[u8],
     salt: &[u8],
     root: &[u8],
     first: &[u8],
@@ -217,25 +217,25 @@ fn open_key(
     out: &mut [u8],
     work: &mut [u8],
 ) -> Answer
-    requires { ⌜ Lengths shape (now key) (now public_key) (now salt) (now root) (now first)
+    requires { ⌜ Lengths shape (now key) (now public) (now salt) (now root) (now first)
         × Ranges shape e second hidden × (openingLength shape ≤ length (now out)) × (65536 ≤ length (now work)) ⌝ }
     ensures { λ r. ⌜ r
-        ≡ openExecution (aesScheme shape) (now (key .entry)) (now (public_key .entry)) (now (salt .entry)) (now (root .entry)) (now (first .entry))
+        ≡ openExecution (aesScheme shape) (now (key .entry)) (now (public .entry)) (now (salt .entry)) (now (root .entry)) (now (first .entry))
         e second hidden (now (out .entry)) (now (work .entry)) .answer ⌝ }
     ensures { λ _. ⌜ now (out .exit)
-        ≡ openExecution (aesScheme shape) (now (key .entry)) (now (public_key .entry)) (now (salt .entry)) (now (root .entry)) (now (first .entry))
+        ≡ openExecution (aesScheme shape) (now (key .entry)) (now (public .entry)) (now (salt .entry)) (now (root .entry)) (now (first .entry))
         e second hidden (now (out .entry)) (now (work .entry)) .output ⌝ }
     ensures { λ _. ⌜ now (work .exit)
-        ≡ openExecution (aesScheme shape) (now (key .entry)) (now (public_key .entry)) (now (salt .entry)) (now (root .entry)) (now (first .entry))
+        ≡ openExecution (aesScheme shape) (now (key .entry)) (now (public .entry)) (now (salt .entry)) (now (root .entry)) (now (first .entry))
         e second hidden (now (out .entry)) (now (work .entry)) .work ⌝ }
 {
     let mut inputs = [0u8; 200];
-    let ciphertext = cipher::encrypt(key, &public_key[0..16], &mut inputs);
+    let ciphertext = cipher::encrypt(key, &public[0..16], &mut inputs);
     let zero = cipher::first_zero(&inputs);
     if zero < 200 {
         return Answer::ZeroInput(zero as u8);
     }
-    if !slices::equal(&ciphertext, &public_key[16..32]) {
+    if !slices::equal(&ciphertext, &public[16..32]) {
         return Answer::WrongKey;
     }
     let mut inverses = inputs;
@@ -243,7 +243,7 @@ fn open_key(
     make(
         shape,
         key,
-        public_key,
+        public,
         salt,
         root,
         first,
@@ -263,7 +263,7 @@ fn open_key(
 fn open_ranges(
     shape: Shape,
     key: &[u8],
-    public_key: &[u8],
+    public: &[u8],
     salt: &[u8],
     root: &[u8],
     first: &[u8],
@@ -273,16 +273,16 @@ fn open_ranges(
     out: &mut [u8],
     work: &mut [u8],
 ) -> Answer
-    requires { ⌜ Lengths shape (now key) (now public_key) (now salt) (now root) (now first)
+    requires { ⌜ Lengths shape (now key) (now public) (now salt) (now root) (now first)
         × (second < 2 ^ (8 * shape .wide)) × (openingLength shape ≤ length (now out)) × (65536 ≤ length (now work)) ⌝ }
     ensures { λ r. ⌜ r
-        ≡ openExecution (aesScheme shape) (now (key .entry)) (now (public_key .entry)) (now (salt .entry)) (now (root .entry)) (now (first .entry))
+        ≡ openExecution (aesScheme shape) (now (key .entry)) (now (public .entry)) (now (salt .entry)) (now (root .entry)) (now (first .entry))
         e second hidden (now (out .entry)) (now (work .entry)) .answer ⌝ }
     ensures { λ _. ⌜ now (out .exit)
-        ≡ openExecution (aesScheme shape) (now (key .entry)) (now (public_key .entry)) (now (salt .entry)) (now (root .entry)) (now (first .entry))
+        ≡ openExecution (aesScheme shape) (now (key .entry)) (now (public .entry)) (now (salt .entry)) (now (root .entry)) (now (first .entry))
         e second hidden (now (out .entry)) (now (work .entry)) .output ⌝ }
     ensures { λ _. ⌜ now (work .exit)
-        ≡ openExecution (aesScheme shape) (now (key .entry)) (now (public_key .entry)) (now (salt .entry)) (now (root .entry)) (now (first .entry))
+        ≡ openExecution (aesScheme shape) (now (key .entry)) (now (public .entry)) (now (salt .entry)) (now (root .entry)) (now (first .entry))
         e second hidden (now (out .entry)) (now (work .entry)) .work ⌝ }
 {
     if e >= shape.executions {
@@ -297,7 +297,7 @@ fn open_ranges(
     open_key(
         shape,
         key,
-        public_key,
+        public,
         salt,
         root,
         first,
@@ -313,7 +313,7 @@ fn open_ranges(
 pub fn open(
     shape: Shape,
     key: &[u8],
-    public_key: &[u8],
+    public: &[u8],
     salt: &[u8],
     root: &[u8],
     first: &[u8],
@@ -325,19 +325,19 @@ pub fn open(
 ) -> Answer
     requires { ⌜ Valid shape × (second < 2 ^ (8 * shape .wide)) ⌝ }
     ensures { λ r. ⌜ r
-        ≡ openExecution (aesScheme shape) (now (key .entry)) (now (public_key .entry)) (now (salt .entry)) (now (root .entry)) (now (first .entry))
+        ≡ openExecution (aesScheme shape) (now (key .entry)) (now (public .entry)) (now (salt .entry)) (now (root .entry)) (now (first .entry))
         e second hidden (now (out .entry)) (now (work .entry)) .answer ⌝ }
     ensures { λ _. ⌜ now (out .exit)
-        ≡ openExecution (aesScheme shape) (now (key .entry)) (now (public_key .entry)) (now (salt .entry)) (now (root .entry)) (now (first .entry))
+        ≡ openExecution (aesScheme shape) (now (key .entry)) (now (public .entry)) (now (salt .entry)) (now (root .entry)) (now (first .entry))
         e second hidden (now (out .entry)) (now (work .entry)) .output ⌝ }
     ensures { λ _. ⌜ now (work .exit)
-        ≡ openExecution (aesScheme shape) (now (key .entry)) (now (public_key .entry)) (now (salt .entry)) (now (root .entry)) (now (first .entry))
+        ≡ openExecution (aesScheme shape) (now (key .entry)) (now (public .entry)) (now (salt .entry)) (now (root .entry)) (now (first .entry))
         e second hidden (now (out .entry)) (now (work .entry)) .work ⌝ }
 {
     if key.len() != 16 {
         return Answer::KeyLength;
     }
-    if public_key.len() != 32 {
+    if public.len() != 32 {
         return Answer::PublicKeyLength;
     }
     if salt.len() != 32 {
@@ -358,7 +358,7 @@ pub fn open(
     open_ranges(
         shape,
         key,
-        public_key,
+        public,
         salt,
         root,
         first,

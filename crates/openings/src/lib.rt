@@ -22,7 +22,7 @@ const BASE: Shape = Shape {
 // opening, and the work slice's first 65,536 bytes are zero; refused, both are untouched.
 pub fn open(
     key: &[u8],
-    public_key: &[u8],
+    public: &[u8],
     salt: &[u8],
     root: &[u8],
     first: &[u8],
@@ -33,20 +33,20 @@ pub fn open(
     work: &mut [u8],
 ) -> Answer
     ensures { λ r. ⌜ r
-        ≡ openExecution baseScheme (now (key .entry)) (now (public_key .entry)) (now (salt .entry)) (now (root .entry)) (now (first .entry))
+        ≡ openExecution baseScheme (now (key .entry)) (now (public .entry)) (now (salt .entry)) (now (root .entry)) (now (first .entry))
         e second hidden (now (output .entry)) (now (work .entry)) .answer ⌝ }
     ensures { λ _. ⌜ now (output .exit)
-        ≡ openExecution baseScheme (now (key .entry)) (now (public_key .entry)) (now (salt .entry)) (now (root .entry)) (now (first .entry))
+        ≡ openExecution baseScheme (now (key .entry)) (now (public .entry)) (now (salt .entry)) (now (root .entry)) (now (first .entry))
         e second hidden (now (output .entry)) (now (work .entry)) .output ⌝ }
     ensures { λ _. ⌜ now (work .exit)
-        ≡ openExecution baseScheme (now (key .entry)) (now (public_key .entry)) (now (salt .entry)) (now (root .entry)) (now (first .entry))
+        ≡ openExecution baseScheme (now (key .entry)) (now (public .entry)) (now (salt .entry)) (now (root .entry)) (now (first .entry))
         e second hidden (now (output .entry)) (now (work .entry)) .work ⌝ }
 {
     let shape = BASE;
     make_opening::open(
         shape,
         key,
-        public_key,
+        public,
         salt,
         root,
         first,
@@ -59,10 +59,10 @@ pub fn open(
 }
 
 // An opening is checked. After 13 to 15 and on success the work slice's first 65,536 bytes are zero; else it is untouched.
-pub fn verify_opening(public_key: &[u8], opening: &[u8], work: &mut [u8]) -> Answer
-    ensures { λ r. ⌜ r ≡ verifyOpening baseScheme (now (public_key .entry)) (now (opening .entry)) (now (work .entry)) .answer ⌝ }
-    ensures { λ _. ⌜ now (work .exit) ≡ verifyOpening baseScheme (now (public_key .entry)) (now (opening .entry)) (now (work .entry)) .work ⌝ }
+pub fn verify_opening(public: &[u8], opening: &[u8], work: &mut [u8]) -> Answer
+    ensures { λ r. ⌜ r ≡ verifyOpening baseScheme (now (public .entry)) (now (opening .entry)) (now (work .entry)) .answer ⌝ }
+    ensures { λ _. ⌜ now (work .exit) ≡ verifyOpening baseScheme (now (public .entry)) (now (opening .entry)) (now (work .entry)) .work ⌝ }
 {
     let shape = BASE;
-    check_opening::verify_opening(shape, public_key, opening, work)
+    check_opening::verify_opening(shape, public, opening, work)
 }

@@ -19,18 +19,18 @@ fn byte_offsets(
     key: &[u8],
     inverses: &[u8],
     sum: &[u8],
-    key_offset: &mut [u8],
-    inverse_offsets: &mut [u8],
+    offset: &mut [u8],
+    inverse: &mut [u8],
 )
     requires { ⌜ Valid shape × (length (now key) ≡ 16) × (length (now inverses) ≡ 200) × (length (now sum) ≡ total (tapeSizes shape))
-        × (length (now key_offset) ≡ 16) × (length (now inverse_offsets) ≡ 200) ⌝ }
-    ensures { λ _. ⌜ now (key_offset .exit) ≡ zipXor (now (key .entry)) (tapePart (aesScheme shape) 0 (now (sum .entry))) ⌝ }
-    ensures { λ _. ⌜ now (inverse_offsets .exit) ≡ zipXor (now (inverses .entry)) (tapePart (aesScheme shape) 1 (now (sum .entry))) ⌝ }
+        × (length (now offset) ≡ 16) × (length (now inverse) ≡ 200) ⌝ }
+    ensures { λ _. ⌜ now (offset .exit) ≡ zipXor (now (key .entry)) (tapePart (aesScheme shape) 0 (now (sum .entry))) ⌝ }
+    ensures { λ _. ⌜ now (inverse .exit) ≡ zipXor (now (inverses .entry)) (tapePart (aesScheme shape) 1 (now (sum .entry))) ⌝ }
 {
-    slices::copy(key_offset, key);
-    slices::xor_into(key_offset, party_shares::tape_part(shape, 0, sum));
-    slices::copy(inverse_offsets, inverses);
-    slices::xor_into(inverse_offsets, party_shares::tape_part(shape, 1, sum));
+    slices::copy(offset, key);
+    slices::xor_into(offset, party_shares::tape_part(shape, 0, sum));
+    slices::copy(inverse, inverses);
+    slices::xor_into(inverse, party_shares::tape_part(shape, 1, sum));
 }
 
 // The product offsets, from the rows and Lagrange's values at the points 20 to 40.
@@ -80,27 +80,27 @@ fn offsets_under(
     lasts: &[u64],
     first: &[u8],
     sum: &mut [u8],
-    key_offset: &mut [u8],
-    inverse_offsets: &mut [u8],
-    product_offsets: &mut [u8],
+    offset: &mut [u8],
+    inverse: &mut [u8],
+    product: &mut [u8],
 )
     requires { ⌜ Rows shape (now us) (now vs) (now lasts) × (length (now salt) ≡ 32) × (shape .parties * 16 ≤ length (now seeds))
         × (length (now key) ≡ 16) × (length (now inverses) ≡ 200) × (length (now first) ≡ firstChallengeLength shape)
-        × (length (now sum) ≡ total (tapeSizes shape)) × (length (now key_offset) ≡ 16) × (length (now inverse_offsets) ≡ 200)
-        × (length (now product_offsets) ≡ productPoints shape * shape .wide) ⌝ }
-    ensures { λ _. ⌜ now (key_offset .exit)
+        × (length (now sum) ≡ total (tapeSizes shape)) × (length (now offset) ≡ 16) × (length (now inverse) ≡ 200)
+        × (length (now product) ≡ productPoints shape * shape .wide) ⌝ }
+    ensures { λ _. ⌜ now (offset .exit)
         ≡ zipXor (now (key .entry)) (tapePart (aesScheme shape) 0 (sumXor (shape .parties)
         (λ i. tape (aesScheme shape) (now (salt .entry)) e i (row 16 i (now (seeds .entry)))))) ⌝ }
-    ensures { λ _. ⌜ now (inverse_offsets .exit)
+    ensures { λ _. ⌜ now (inverse .exit)
         ≡ zipXor (now (inverses .entry)) (tapePart (aesScheme shape) 1 (sumXor (shape .parties)
         (λ i. tape (aesScheme shape) (now (salt .entry)) e i (row 16 i (now (seeds .entry)))))) ⌝ }
-    ensures { λ _. ⌜ now (product_offsets .exit)
+    ensures { λ _. ⌜ now (product .exit)
         ≡ workedOffsets shape (now (us .entry)) (now (vs .entry)) (now (lasts .entry)) (sumXor (shape .parties)
         (λ i. tape (aesScheme shape) (now (salt .entry)) e i (row 16 i (now (seeds .entry))))) (now (first .entry)) ⌝ }
 {
     party::hash_sum(4, salt, e, shape.parties, seeds, sum);
-    byte_offsets(shape, key, inverses, sum, key_offset, inverse_offsets);
-    wide_offsets(shape, us, vs, lasts, sum, first, product_offsets);
+    byte_offsets(shape, key, inverses, sum, offset, inverse);
+    wide_offsets(shape, us, vs, lasts, sum, first, product);
 }
 
 // All offsets of an execution.
@@ -115,21 +115,21 @@ pub fn offsets(
     vs: &[u64],
     lasts: &[u64],
     first: &[u8],
-    key_offset: &mut [u8],
-    inverse_offsets: &mut [u8],
-    product_offsets: &mut [u8],
+    offset: &mut [u8],
+    inverse: &mut [u8],
+    product: &mut [u8],
 )
     requires { ⌜ Rows shape (now us) (now vs) (now lasts) × (length (now salt) ≡ 32) × (shape .parties * 16 ≤ length (now seeds))
         × (length (now key) ≡ 16) × (length (now inverses) ≡ 200) × (length (now first) ≡ firstChallengeLength shape)
-        × (length (now key_offset) ≡ 16) × (length (now inverse_offsets) ≡ 200)
-        × (length (now product_offsets) ≡ productPoints shape * shape .wide) ⌝ }
-    ensures { λ _. ⌜ now (key_offset .exit)
+        × (length (now offset) ≡ 16) × (length (now inverse) ≡ 200)
+        × (length (now product) ≡ productPoints shape * shape .wide) ⌝ }
+    ensures { λ _. ⌜ now (offset .exit)
         ≡ zipXor (now (key .entry)) (tapePart (aesScheme shape) 0 (sumXor (shape .parties)
         (λ i. tape (aesScheme shape) (now (salt .entry)) e i (row 16 i (now (seeds .entry)))))) ⌝ }
-    ensures { λ _. ⌜ now (inverse_offsets .exit)
+    ensures { λ _. ⌜ now (inverse .exit)
         ≡ zipXor (now (inverses .entry)) (tapePart (aesScheme shape) 1 (sumXor (shape .parties)
         (λ i. tape (aesScheme shape) (now (salt .entry)) e i (row 16 i (now (seeds .entry)))))) ⌝ }
-    ensures { λ _. ⌜ now (product_offsets .exit)
+    ensures { λ _. ⌜ now (product .exit)
         ≡ workedOffsets shape (now (us .entry)) (now (vs .entry)) (now (lasts .entry)) (sumXor (shape .parties)
         (λ i. tape (aesScheme shape) (now (salt .entry)) e i (row 16 i (now (seeds .entry))))) (now (first .entry)) ⌝ }
 {
@@ -148,8 +148,8 @@ pub fn offsets(
         lasts,
         first,
         &mut sum[0..size],
-        key_offset,
-        inverse_offsets,
-        product_offsets,
+        offset,
+        inverse,
+        product,
     );
 }

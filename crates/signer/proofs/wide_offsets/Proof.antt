@@ -5,87 +5,74 @@ use Rattle.signer.proofs.wide_offsets.Reads as reads
 use Rattle.signer.proofs.wide_offsets.Lts as lts
 use Rattle.elements.proofs.load.Reads as load-reads
 use Rattle.elements.proofs.store.Reads as store-reads
-use Rattle.fields.proofs.field.Reads as field-reads
 use Rattle.offsets.proofs.products.Reads as products-reads
-use Rattle.sets.proofs.tape_sizes.Reads as tape-sizes-reads
+use Rattle.party_shares.proofs.tape_part.Reads as tape-part-reads
 
--- src/lib.rt:52:17
-tape-sizes-requires : tie.Need-tape-sizes-requires
-tape-sizes-requires c κs = search needs
-
--- src/lib.rt:54:39
+-- src/lib.rt:52:39
 slice-aggregate-load : tie.Need-slice-aggregate-load
 slice-aggregate-load c = search needs
 
--- src/lib.rt:54:5
+-- src/lib.rt:52:5
 load-requires : tie.Need-load-requires
 load-requires c κs = ?
 
--- src/lib.rt:56:46
-slice-aggregate-field : tie.Need-slice-aggregate-field
-slice-aggregate-field c = search needs
+-- src/lib.rt:56:9
+tape-part-requires : tie.Need-tape-part-requires
+tape-part-requires c κs = search needs
 
--- src/lib.rt:56:32
-field-requires : tie.Need-field-requires
-field-requires c κs = ?
-
--- src/lib.rt:56:63
+-- src/lib.rt:57:9
 slice-aggregate-load-2 : tie.Need-slice-aggregate-load-2
 slice-aggregate-load-2 c = search needs
 
--- src/lib.rt:56:5
+-- src/lib.rt:54:5
 load-requires-2 : tie.Need-load-requires-2
 load-requires-2 c κs = ?
 
--- src/lib.rt:58:46
-slice-aggregate-field-2 : tie.Need-slice-aggregate-field-2
-slice-aggregate-field-2 c = search needs
+-- src/lib.rt:62:9
+tape-part-requires-2 : tie.Need-tape-part-requires-2
+tape-part-requires-2 c κs = search needs
 
--- src/lib.rt:58:32
-field-requires-2 : tie.Need-field-requires-2
-field-requires-2 c κs = ?
-
--- src/lib.rt:58:63
+-- src/lib.rt:63:9
 slice-aggregate-load-3 : tie.Need-slice-aggregate-load-3
 slice-aggregate-load-3 c = search needs
 
--- src/lib.rt:58:5
+-- src/lib.rt:60:5
 load-requires-3 : tie.Need-load-requires-3
 load-requires-3 c κs = ?
 
--- src/lib.rt:60:30
+-- src/lib.rt:66:30
 slice-aggregate-products : tie.Need-slice-aggregate-products
 slice-aggregate-products c = search needs
 
--- src/lib.rt:60:38
+-- src/lib.rt:66:38
 slice-aggregate-products-2 : tie.Need-slice-aggregate-products-2
 slice-aggregate-products-2 c = search needs
 
--- src/lib.rt:60:46
+-- src/lib.rt:66:46
 slice-aggregate-products-3 : tie.Need-slice-aggregate-products-3
 slice-aggregate-products-3 c = search needs
 
--- src/lib.rt:60:70
+-- src/lib.rt:66:70
 slice-aggregate-products-4 : tie.Need-slice-aggregate-products-4
 slice-aggregate-products-4 c = search needs
 
--- src/lib.rt:60:5
+-- src/lib.rt:66:5
 products-requires : tie.Need-products-requires
 products-requires c κs = search needs
 
--- src/lib.rt:61:33
+-- src/lib.rt:67:33
 slice-aggregate-store : tie.Need-slice-aggregate-store
 slice-aggregate-store c = search needs
 
--- src/lib.rt:61:5
+-- src/lib.rt:67:5
 store-requires : tie.Need-store-requires
 store-requires c κs = ?
 
--- src/lib.rt:38:1
+-- src/lib.rt:37:1
 same-length : tie.Need-same-length
 same-length c = search needs
 
--- src/lib.rt:38:1
+-- src/lib.rt:37:1
 returns : tie.Need-returns
 returns c = ?
 
@@ -93,15 +80,12 @@ pub wide-offsets-spec : {M : Type 1} → statement M
 wide-offsets-spec =
     tie.close
     (tie.spec
-    tape-sizes-requires
     slice-aggregate-load
     load-requires
-    slice-aggregate-field
-    field-requires
+    tape-part-requires
     slice-aggregate-load-2
     load-requires-2
-    slice-aggregate-field-2
-    field-requires-2
+    tape-part-requires-2
     slice-aggregate-load-3
     load-requires-3
     slice-aggregate-products
