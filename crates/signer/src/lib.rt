@@ -13,7 +13,16 @@ ghost use Rattle.sets.specs.Valid.{Valid};
 ghost use Rattle.forms.specs.Offsets.{workedOffsets};
 ghost use Rattle.signer.specs.Given.{Rows};
 
-// "An offset is the true value plus the sum of tape shares": of the key and of the inverses.
+// "An offset is the true value plus the sum of tape shares."
+fn offset_of(value: &[u8], shares: &[u8], out: &mut [u8])
+    requires { ⌜ (length (now value) ≡ length (now out)) × (length (now shares) ≡ length (now out)) ⌝ }
+    ensures { λ _. ⌜ now (out .exit) ≡ zipXor (now (value .entry)) (now (shares .entry)) ⌝ }
+{
+    slices::copy(out, value);
+    slices::xor_into(out, shares);
+}
+
+// The offsets of the key and of the inverses.
 fn byte_offsets(
     shape: Shape,
     key: &[u8],
@@ -27,10 +36,8 @@ fn byte_offsets(
     ensures { λ _. ⌜ now (offset .exit) ≡ zipXor (now (key .entry)) (tapePart (aesScheme shape) 0 (now (sum .entry))) ⌝ }
     ensures { λ _. ⌜ now (inverse .exit) ≡ zipXor (now (inverses .entry)) (tapePart (aesScheme shape) 1 (now (sum .entry))) ⌝ }
 {
-    slices::copy(offset, key);
-    slices::xor_into(offset, party_shares::tape_part(shape, 0, sum));
-    slices::copy(inverse, inverses);
-    slices::xor_into(inverse, party_shares::tape_part(shape, 1, sum));
+    offset_of(key, party_shares::tape_part(shape, 0, sum), offset);
+    offset_of(inverses, party_shares::tape_part(shape, 1, sum), inverse);
 }
 
 // The product offsets, from the rows and Lagrange's values at the points 20 to 40.

@@ -1,0 +1,32 @@
+-- `signer::byte_offsets` meets its contract. Assumes nothing.
+use mathlib.Core.Path.{sym, ap, _∙_}
+use borrow.Author.Needs.{needs}
+use Rattle.slices.specs.Lists.{zipXor}
+use Rattle.sets.specs.Bounds.{all-sboxes}
+use Rattle.party_shares.proofs.Laws.{part-long}
+use Rattle.signer.proofs.byte_offsets.Statement.{statement}
+use Rattle.signer.proofs.byte_offsets.Tie as tie
+
+offset-of-requires : tie.Need-offset-of-requires
+offset-of-requires c κs =
+    let s = c .before .before .before .before .before .before .before in
+    (s .pre .1 ∙ sym (s .pre .4), part-long (s .pre .0) 0 (s .args .sum .now) (s .pre .3) (c .before .tape-part .ensures) ∙ sym (s .pre .4))
+
+offset-of-requires-2 : tie.Need-offset-of-requires-2
+offset-of-requires-2 c κs =
+    let s = c .before .before .before .before .before .before .before .before .before .before .before .before in (
+      s .pre .2 ∙ sym (s .pre .5),
+      part-long (s .pre .0) 1 (s .args .sum .now) (s .pre .3) (c .before .tape-part2 .ensures) ∙ all-sboxes (s .pre .0) ∙ sym (s .pre .5),
+    )
+
+returns : tie.Need-returns
+returns c =
+    let s = c .before .before .before .before .before .before .before .before .before .before .before .before .before .before .before in (
+      c .before .before .before .before .before .before .before .offset-of .ensures ∙ ap (zipXor (s .args .key .now)) (c .before .before .before .before .before .before .before .before .before .tape-part .ensures),
+      c .before .before .offset-of2 .ensures ∙ ap (zipXor (s .args .inverses .now)) (c .before .before .before .before .tape-part2 .ensures),
+    )
+
+pub byte-offsets-spec : {M : Type 1} → statement M
+byte-offsets-spec =
+    tie.close
+    (tie.spec (λ c κs. search needs) offset-of-requires (λ c κs. search needs) offset-of-requires-2 (λ c. search needs) (λ c. search needs) returns)

@@ -1,0 +1,32 @@
+-- `signer::offsets` meets its contract, with room for the sum. Assumes nothing.
+use mathlib.Core.Path.{ap, _∙_}
+use Prim.Native.Nat.{_^_}
+use native.Mathlib.Omega.{arith}
+use lib.ListN.{length, take}
+use borrow.Author.Needs.{needs}
+use Rattle.slices.specs.Layout.{total}
+use Rattle.sets.specs.Bounds.{tape-most}
+use Rattle.party_shares.proofs.Laws.{front-long}
+use Rattle.signer.proofs.Laws.{sizes-fit, size-is}
+use Rattle.signer.proofs.offsets.Statement.{statement}
+use Rattle.signer.proofs.offsets.Tie as tie
+
+offset-requires : tie.Need-offset-requires
+offset-requires c κs = sizes-fit (c .before .before .before .before .before .before .before .before .before .before .before .before .before .pre .0 .valid) (c .before .tape-sizes .ensures)
+
+part-sum-end : tie.Need-part-sum-end
+part-sum-end c =
+    let v = c .before .before .before .before .before .before .before .before .before .before .before .before .before .before .pre .0 .valid in omega (arith, size-is v (c .before .before .tape-sizes .ensures) (c .offset .ensures), tape-most v)
+
+offsets-under-requires : tie.Need-offsets-under-requires
+offsets-under-requires c κs =
+    let p = c .before .before .before .before .before .before .before .before .before .before .before .before .before .before .before .before .before .before .pre in
+    let v = p .0 .valid in
+    let size = size-is v (c .before .before .before .before .before .before .tape-sizes .ensures) (c .before .before .before .before .offset .ensures) in
+    (p .0, p .1, p .2, p .3, p .4, p .5, front-long _ size (omega (arith, size, tape-most v)), p .6, p .7, p .8)
+
+pub offsets-spec : {M : Type 1} → statement M
+offsets-spec =
+    tie.close
+    (tie.spec (λ c κs. search needs) (λ c. search needs) offset-requires (λ c. search needs) (λ c. search needs) part-sum-end
+    offsets-under-requires (λ c. search needs) (λ c. search needs) (λ c. search needs) (λ c. search needs))
