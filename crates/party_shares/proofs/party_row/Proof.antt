@@ -13,8 +13,11 @@ use Rattle.party_shares.proofs.Laws.{rest-long, row-is, put-row}
 use Rattle.party_shares.proofs.party_row.Statement.{statement}
 use Rattle.party_shares.proofs.party_row.Tie as tie
 
+abbrev walked : tie.After-store-arg → tie.After-walk
+walked c = c .before .before .before .before .before .before .before .before .before
+
 abbrev start : tie.After-store-arg → tie.Start
-start c = c .before .before .before .before .before .before .before .before .before .before .before .before .before .before .before .before .before .before .before .before .before
+start c = walked c .before .before .before .before .before .before .before .before .before .before .before .before
 
 abbrev wide : tie.After-store-arg → ℕ
 wide c = start c .args .shape .wide
@@ -62,7 +65,7 @@ opened-row-requires c κs =
     let s = start (k .before) in
     let g = s .pre .0 in
     let l = k .store .last .0 in
-    let w = c .before .before .before .before .before .before .before .before .before .before .before .before .before .before .before .before .walk in (
+    let w = walked (k .before) .walk in (
       g .valid,
       g .first-size,
       g .tables-size,
