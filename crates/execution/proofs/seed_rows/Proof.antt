@@ -92,11 +92,13 @@ loop-again c =
     let a = s .args in
     let i = k .loop .i in
     let size = k .before .before .offset .result in
-    let row = ap (λ seed. workedRow (a .shape) (committed (a .front .now) (a .key .now) (a .inverse .now)) (a .product .now) (a .first .now) (a .far .now)
-    (a .given) (a .tables .now) (a .last) i (tapeOf (aesScheme (a .shape)) (a .salt .now) (a .e) i seed)) (row-cut i 16 (a .seeds .now)) in (
+    let last = h .last .1 .1 .1 .1 .1 .1 .1 .1 .1 .1 .1 .1 .1 .1 .0 in
+    let kept = h .kept .1 .1 .1 .1 .1 .1 .1 .1 .1 .1 .1 .1 .1 .1 in
+    let row = ap (λ seed. workedRow (a .shape) (committed (a .front .now) (a .key .now) (a .inverse .now)) (a .product .now) (a .first .now)
+    (a .far .now) (a .given) (a .tables .now) (a .last) i (tapeOf (aesScheme (a .shape)) (a .salt .now) (a .e) i seed)) (row-cut i 16 (a .seeds .now)) in (
       omega arith,
-      same-len-mid 0 (size - 0) (k .loop .tape) (h .last .1 .1 .1 .1 .1 .1 .1 .1 .1 .1 .1 .1 .1 .1 .0) (h .kept .1 .1 .1 .1 .1 .1 .1 .1 .1 .1 .1 .1 .1 .1 .0) ∙ k .loop .inv .1,
-      stacking-lent (k .loop .inv .2) (fits t) (h .ensures ∙ row) (h .kept .1 .1 .1 .1 .1 .1 .1 .1 .1 .1 .1 .1 .1 .1 .1 .0),
+      same-len-mid 0 (size - 0) (k .loop .tape) last (kept .0) ∙ k .loop .inv .1,
+      stacking-lent (k .loop .inv .2) (fits t) (h .ensures ∙ row) (kept .1 .0),
     )
 
 same-length : tie.Need-same-length Inv-loop μ-loop

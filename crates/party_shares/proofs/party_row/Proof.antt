@@ -89,8 +89,8 @@ returns c =
     let b = bytesOf n (o .opened-c .result) in
     let z = r .opened-row .last .1 .1 .1 .1 .1 .1 .1 .0 in
     let all = rest-long l l (16 + n) refl (long k) in
-    put-row n (a .out .now) (y .copy .last .0) b z (size (k .before)) (copied (k .before)) (length-bytesOf n (o .opened-c .result)) (k .store .ensures)
-    (same k) (r .opened-row .kept .1 .1 .1 .1 .1 .1 .1 .0 ∙ all)
+    put-row n (a .out .now) (y .copy .last .0) b z (size (k .before)) (copied (k .before)) (length-bytesOf n (o .opened-c .result))
+    (k .store .ensures) (same k) (r .opened-row .kept .1 .1 .1 .1 .1 .1 .1 .0 ∙ all)
     ∙ row-is (s .pre .0 .valid) (a .front .now) (a .key .now) (a .inverse .now) (a .product .now) (a .first .now) (a .far .now) (a .given)
     (a .tables .now) (a .last) (a .i) (a .tape .now) (y .copy .ensures ∙ w .walk .ensures .0) (w .walk .ensures .1 .0) (w .walk .ensures .1 .1)
     (o .opened-c .ensures) (r .opened-row .ensures)
