@@ -1,10 +1,9 @@
 -- Tapes and the rows that are worked out from them. Assumes nothing.
-use mathlib.Core.Path.{_≡_, refl, sym, ap, ap₂, _∙_}
+use mathlib.Core.Path.{_≡_, ap, _∙_}
 use mathlib.Core.List.{List, _∷_, _++_}
-use Prim.Native.Nat.{ℕ, suc, _+_, _-_, _*_, _^_, _<_, _≤_}
+use Prim.Native.Nat.{ℕ, _*_, _^_, _<_, _≤_}
 use native.Mathlib.Omega.{arith}
-use lib.ListN.{length, getD, take, drop}
-use Rattle.slices.specs.Lists.{tab, rows, row}
+use lib.ListN.{length, take}
 use Rattle.slices.specs.Layout.{total}
 use Rattle.shake.specs.Shake128.{shake128}
 use Rattle.party.specs.Party.{partyHash}

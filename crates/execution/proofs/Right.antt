@@ -1,13 +1,13 @@
 -- The numbers that all parties have in common are right, and then so are the parties' rows. Assumes nothing.
 use mathlib.Core.Path.{_≡_, refl, sym, ap, ap₂, _∙_}
 use mathlib.Core.List.{List}
-use Prim.Native.Nat.{ℕ, zero, suc, _+_, _*_, _^_, _<_}
+use Prim.Native.Nat.{ℕ, zero, suc, _*_, _^_, _<_}
 use native.Mathlib.Omega.{arith}
 use lib.Bits.{bitXor}
 use lib.ListN.{length, getD, take, drop}
 use Rattle.slices.specs.Lists.{tab, rows, row}
 use Rattle.slices.specs.Tab.{length-tab, getD-tab, rows-cong}
-use Rattle.slices.specs.Bytes.{Bytes, Sized}
+use Rattle.slices.specs.Bytes.{Bytes}
 use Rattle.slices.specs.Sums.{zip-bytes}
 use Rattle.slices.specs.Numbers.{numberAt}
 use Rattle.poly.specs.Index.{at-cases}

@@ -10,18 +10,18 @@ use lib.Seq.{length-take-le}
 use borrow.Rule.Slice.PartMut.{putMid}
 use Rattle.slices.specs.Lists.{tab, zipXor, put}
 use Rattle.slices.specs.Tab.{getD-tab, rows-cong}
-use Rattle.slices.specs.Numbers.{bytesOf, numberAt, numbers, length-bytesOf, length-numbers}
+use Rattle.slices.specs.Numbers.{bytesOf, numberAt, numbers}
 use Rattle.slices.specs.Layout.{field, total, length-field}
 use Rattle.slices.proofs.Put.{put-mid, length-put, put-pair, wrote-none, wrote-more, wrote-all}
 use Rattle.poly.specs.Index.{at, at-same, at-other, at-cases}
 use Rattle.lagrange.specs.Values.{dotProduct}
-use Rattle.circuit.specs.Circuit.{Share, share, party, inputShares as inputsOf, outputShare as outputOf}
+use Rattle.circuit.specs.Circuit.{share, party, inputShares as inputsOf, outputShare as outputOf}
 use Rattle.banquet.specs.declared.Shape.{Shape}
-use Rattle.banquet.specs.Shape.{tapeSizes, productPoints}
+use Rattle.banquet.specs.Shape.{tapeSizes}
 use Rattle.banquet.specs.Sets.{aesScheme}
-use Rattle.banquet.specs.Execution.{Committed, tapePart, tapeS, tapeT, keyShare, inverseShares, inputShares, outputShare}
+use Rattle.banquet.specs.Execution.{Committed, tapePart, keyShare, inverseShares, inputShares, outputShare}
 use Rattle.sets.specs.Valid.{Valid}
-use Rattle.sets.specs.Bounds.{tape-most, by-points, by-ten}
+use Rattle.sets.specs.Bounds.{tape-most}
 use Rattle.forms.specs.Point.{tabledRow, valueS, valueT}
 use Rattle.forms.specs.Party.{committed, own, ownProducts, workedC, workedA, workedB, workedRow}
 

@@ -117,8 +117,8 @@ fn opened_a(
     requires { ⌜ Valid shape × (length (now first) ≡ 10) × (length (now tables) ≡ 640) × (length (now inputs) ≡ 200)
         × (length (now extra) ≡ 20) × (length (now out) ≡ 10 * shape .wide) ⌝ }
     ensures { λ _. ⌜ now (out .exit)
-        ≡ numbers (shape .wide) (shape .m1) (λ j. valueS shape (getD (now (first .entry)) j 0) (tabledRow shape (now (inputs .entry)) (now (tables .entry)) j)
-        (getD (now (extra .entry)) (2 * j) 0) last) ⌝ }
+        ≡ numbers (shape .wide) (shape .m1) (λ j. valueS shape (getD (now (first .entry)) j 0)
+        (tabledRow shape (now (inputs .entry)) (now (tables .entry)) j) (getD (now (extra .entry)) (2 * j) 0) last) ⌝ }
 {
     let mut rows = [0u64; 10];
     opened::rows(shape, inputs, tables, &mut rows);

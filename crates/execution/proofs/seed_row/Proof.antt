@@ -9,9 +9,10 @@ use Rattle.execution.proofs.seed_row.Tie as tie
 returns : tie.Need-returns
 returns c =
     let r = c .before .before in
-    let s = c .before .before .before .before .before .before .before .before .before .before .before .before .before .before .before .before .before .before .before .before in
+    let h = r .before .before .before .before .before in
+    let s = h .before .before .before .before .before .before .before .before .before .before .before .before .before in
     let a = s .args in
-    let drawn = tape-is (s .pre .0 .valid) (a .salt .now) (a .e) (a .i) (a .seed .now) (s .pre .4) (r .before .before .before .before .before .hash .ensures) in
+    let drawn = tape-is (s .pre .0 .valid) (a .salt .now) (a .e) (a .i) (a .seed .now) (s .pre .4) (h .hash .ensures) in
     r .party-row .ensures
     ∙ ap (workedRow (a .shape) (committed (a .front .now) (a .key .now) (a .inverse .now)) (a .product .now) (a .first .now) (a .far .now) (a .given)
     (a .tables .now) (a .last) (a .i)) drawn

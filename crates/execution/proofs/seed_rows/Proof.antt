@@ -1,6 +1,5 @@
 -- `execution::seed_rows` meets its contract: after i turns the first i rows are written; the tape is scratch. Assumes nothing.
 use mathlib.Core.Path.{_≡_, sym, ap, _∙_}
-use mathlib.Core.List.{List}
 use Prim.Native.Nat.{ℕ, _≤_, _+_, _-_, _*_}
 use native.Mathlib.Omega.{arith}
 use lib.ListN.{length}
@@ -29,8 +28,11 @@ Inv-loop shape salt e seeds front key inverse product first far given tables las
 abbrev μ-loop : tie.MeasureT-loop
 μ-loop shape salt e seeds front key inverse product first far given tables last out₀ size len tape₀ n i₀ out tape i = n - i
 
+abbrev entry : tie.After-row-length Inv-loop μ-loop → tie.Start Inv-loop μ-loop
+entry k = k .before .before .before .before .before .before .before .before .before .before .before .before .before .before
+
 abbrev start : tie.At-loop Inv-loop μ-loop → tie.Start Inv-loop μ-loop
-start k = k .before .before .before .before .before .before .before .before .before .before .before .before .before .before .before
+start k = entry (k .before)
 
 abbrev len : tie.At-loop Inv-loop μ-loop → ℕ
 len k = k .before .row-length .result
@@ -44,8 +46,8 @@ fits c = row-fits (len (c .before)) (c .loop-test .taken)
 bound : (k : tie.At-loop Inv-loop μ-loop) → start k .args .shape .parties * len k ≤ 18176
 bound k = rows-few (start k .pre .0 .valid) (k .before .row-length .ensures)
 
-whole : (k : tie.After-row-length Inv-loop μ-loop) → length (k .before .before .before .before .before .before .before .before .before .before .before .before .before .before .args .out .now) ≡ k .before .before .before .before .before .before .before .before .before .before .before .before .before .before .args .shape .parties * k .row-length .result
-whole k = k .before .before .before .before .before .before .before .before .before .before .before .before .before .before .pre .3 ∙ ap (k .before .before .before .before .before .before .before .before .before .before .before .before .before .before .args .shape .parties *_) (sym (k .row-length .ensures))
+whole : (k : tie.After-row-length Inv-loop μ-loop) → length (entry k .args .out .now) ≡ entry k .args .shape .parties * k .row-length .result
+whole k = entry k .pre .3 ∙ ap (entry k .args .shape .parties *_) (sym (k .row-length .ensures))
 
 -- the length of a tape
 drawn : (k : tie.At-loop Inv-loop μ-loop) → k .before .before .offset .result ≡ total (tapeSizes (start k .args .shape))
@@ -55,7 +57,9 @@ small : (k : tie.At-loop Inv-loop μ-loop) → k .before .before .offset .result
 small k = omega (arith, drawn k, tape-most (start k .pre .0 .valid))
 
 offset-requires : tie.Need-offset-requires Inv-loop μ-loop
-offset-requires c κs = offset-fits (c .before .before .before .before .before .before .before .before .before .before .before .before .pre .0 .valid) (c .before .tape-sizes .ensures)
+offset-requires c κs =
+    let s = c .before .before .before .before .before .before .before .before .before .before .before .before in
+    offset-fits (s .pre .0 .valid) (c .before .tape-sizes .ensures)
 
 loop-holds : tie.Need-loop-holds Inv-loop μ-loop
 loop-holds c = (search needs, search needs, stacking-none _ _ (whole c))
@@ -75,7 +79,9 @@ seed-row-requires c κs =
     )
 
 add-i : tie.Need-add-i Inv-loop μ-loop
-add-i c = let t = c .before .before .before .before .before .before .before in omega (arith, t .loop-test .taken, start (t .before) .pre .0 .valid .few)
+add-i c =
+    let t = c .before .before .before .before .before .before .before in
+    omega (arith, t .loop-test .taken, start (t .before) .pre .0 .valid .few)
 
 loop-again : tie.Need-loop-again Inv-loop μ-loop
 loop-again c =
@@ -86,11 +92,13 @@ loop-again c =
     let a = s .args in
     let i = k .loop .i in
     let size = k .before .before .offset .result in
-    let row = ap (λ seed. workedRow (a .shape) (committed (a .front .now) (a .key .now) (a .inverse .now)) (a .product .now) (a .first .now) (a .far .now)
-    (a .given) (a .tables .now) (a .last) i (tapeOf (aesScheme (a .shape)) (a .salt .now) (a .e) i seed)) (row-cut i 16 (a .seeds .now)) in (
+    let last = h .last .1 .1 .1 .1 .1 .1 .1 .1 .1 .1 .1 .1 .1 .1 .0 in
+    let kept = h .kept .1 .1 .1 .1 .1 .1 .1 .1 .1 .1 .1 .1 .1 .1 in
+    let row = ap (λ seed. workedRow (a .shape) (committed (a .front .now) (a .key .now) (a .inverse .now)) (a .product .now) (a .first .now)
+    (a .far .now) (a .given) (a .tables .now) (a .last) i (tapeOf (aesScheme (a .shape)) (a .salt .now) (a .e) i seed)) (row-cut i 16 (a .seeds .now)) in (
       omega arith,
-      same-len-mid 0 (size - 0) (k .loop .tape) (h .last .1 .1 .1 .1 .1 .1 .1 .1 .1 .1 .1 .1 .1 .1 .0) (h .kept .1 .1 .1 .1 .1 .1 .1 .1 .1 .1 .1 .1 .1 .1 .0) ∙ k .loop .inv .1,
-      stacking-lent (k .loop .inv .2) (fits t) (h .ensures ∙ row) (h .kept .1 .1 .1 .1 .1 .1 .1 .1 .1 .1 .1 .1 .1 .1 .1 .0),
+      same-len-mid 0 (size - 0) (k .loop .tape) last (kept .0) ∙ k .loop .inv .1,
+      stacking-lent (k .loop .inv .2) (fits t) (h .ensures ∙ row) (kept .1 .0),
     )
 
 same-length : tie.Need-same-length Inv-loop μ-loop

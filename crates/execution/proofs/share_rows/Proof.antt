@@ -1,131 +1,73 @@
+-- `execution::share_rows` meets its contract: the numbers that all parties have in common are right. Assumes nothing.
+use mathlib.Core.Path.{refl, ap, _∙_}
+use native.Mathlib.Omega.{arith}
+use lib.ListN.{length, take, drop}
 use borrow.Author.Needs.{needs}
+use Rattle.slices.specs.Bytes.{bytes-of}
+use Rattle.sets.specs.Bounds.{by-ten}
+use Rattle.sets.specs.Laws.{wide-field}
+use Rattle.party_shares.proofs.Laws.{load-fits}
+use Rattle.execution.proofs.Right.{right, rows-right}
 use Rattle.execution.proofs.share_rows.Statement.{statement}
 use Rattle.execution.proofs.share_rows.Tie as tie
-use Rattle.execution.proofs.share_rows.Reads as reads
-use Rattle.execution.proofs.share_rows.Lts as lts
-use Rattle.elements.proofs.load.Reads as load-reads
-use Rattle.execution.proofs.seed_rows.Reads as seed-rows-reads
-use Rattle.gf.proofs.mul.Reads as mul-reads
-use Rattle.opened.proofs.far_values.Reads as far-values-reads
-use Rattle.opened.proofs.sum.Reads as sum-reads
-use Rattle.opened.proofs.tables.Reads as tables-reads
 
--- src/lib.rt:141:17
-mul-bits : tie.Need-mul-bits
-mul-bits c = search needs
-
--- src/lib.rt:141:16
-cast-bits : tie.Need-cast-bits
-cast-bits c = search needs
-
--- src/lib.rt:143:46
-slice-aggregate-tables : tie.Need-slice-aggregate-tables
-slice-aggregate-tables c = search needs
-
--- src/lib.rt:143:9
-tables-requires : tie.Need-tables-requires
-tables-requires c κs = search needs
-
--- src/lib.rt:145:39
-slice-aggregate-far-values : tie.Need-slice-aggregate-far-values
-slice-aggregate-far-values c = search needs
-
--- src/lib.rt:145:5
-far-values-requires : tie.Need-far-values-requires
-far-values-requires c κs = search needs
-
--- src/lib.rt:147:39
-slice-aggregate-load : tie.Need-slice-aggregate-load
-slice-aggregate-load c = search needs
-
--- src/lib.rt:147:5
 load-requires : tie.Need-load-requires
-load-requires c κs = ?
+load-requires c κs =
+    let s = c .before .before .before .before .before .before .before .before .before .before .before .before .before .before .before .before in
+    load-fits (s .pre .0) 10 refl (omega (arith, s .pre .6, by-ten (s .pre .0) (s .args .shape .wide)))
 
--- src/lib.rt:151:21
-sub-sum : tie.Need-sub-sum
-sub-sum c = search needs
-
--- src/lib.rt:151:21
-part-sum-start : tie.Need-part-sum-start
-part-sum-start c = search needs
-
--- src/lib.rt:151:21
-part-sum-end : tie.Need-part-sum-end
-part-sum-end c = search needs
-
--- src/lib.rt:151:9
-sum-requires : tie.Need-sum-requires
-sum-requires c κs = search needs
-
--- src/lib.rt:152:21
-slice-aggregate-sum : tie.Need-slice-aggregate-sum
-slice-aggregate-sum c = search needs
-
--- src/lib.rt:152:9
-sum-requires-2 : tie.Need-sum-requires-2
-sum-requires-2 c κs = search needs
-
--- src/lib.rt:148:9
 mul-requires : tie.Need-mul-requires
-mul-requires c κs = ?
+mul-requires c κs =
+    let f = c .before .before .before .before .before .before .before .before .before in
+    let s = f .before .before .before .before .before .before .before .before .before .before .before .before .before .before in
+    wide-field (s .pre .0) .fits
 
--- src/lib.rt:163:9
-slice-aggregate-seed-rows : tie.Need-slice-aggregate-seed-rows
-slice-aggregate-seed-rows c = search needs
-
--- src/lib.rt:164:9
-sub-seed-rows : tie.Need-sub-seed-rows
-sub-seed-rows c = search needs
-
--- src/lib.rt:164:9
-part-seed-rows-start : tie.Need-part-seed-rows-start
-part-seed-rows-start c = search needs
-
--- src/lib.rt:164:9
-part-seed-rows-end : tie.Need-part-seed-rows-end
-part-seed-rows-end c = search needs
-
--- src/lib.rt:166:9
-slice-aggregate-seed-rows-2 : tie.Need-slice-aggregate-seed-rows-2
-slice-aggregate-seed-rows-2 c = search needs
-
--- src/lib.rt:154:5
 seed-rows-requires : tie.Need-seed-rows-requires
-seed-rows-requires c κs = ?
+seed-rows-requires c κs =
+    let l = c .before .before .before .before .before .before .before .before .before .before .before .before in
+    let f = l .before .before .before in
+    let t = f .before .before .before in
+    let p = t .before .before .before .before .before .before .before .before .before .before .before .pre in (
+      record {
+        valid = p .0;
+        front-size = p .3;
+        key-size = p .4;
+        inverses-size = p .5;
+        products-size = p .7;
+        first-size = ap length (l .load .ensures);
+        far-size = ap (λ s. length (take 21 (drop 20 s))) (f .far-values .ensures);
+        tables-size = t .tables2 .kept .1 .1 .0;
+      },
+      p .1,
+      p .2,
+      p .9,
+    )
 
--- src/lib.rt:119:1
-same-length : tie.Need-same-length
-same-length c = search needs
-
--- src/lib.rt:119:1
 returns : tie.Need-returns
-returns c = ?
+returns c =
+    let r = c .before .before in
+    let m = r .before .before .before .before .before .before in
+    let second = m .before in
+    let first = second .before .before in
+    let l = first .before .before .before .before in
+    let f = l .before .before .before in
+    let t = f .before .before .before in
+    let k = t .before .before .before .before in
+    let s = k .before .before .before .before .before .before .before in
+    let a = s .args in
+    let v = s .pre .0 in
+    let known =
+    right v (a .first .now) (a .product .now) (a .second) (s .pre .8) (l .load .ensures) (f .far-values .ensures) (first .sum .ensures)
+    (second .sum2 .ensures) (m .mul .ensures) (t .tables2 .ensures .1) (t .tables2 .ensures .0) in
+    r .seed-rows .ensures
+    ∙ rows-right v (a .first .now) (a .product .now) (a .second) (s .pre .8) (a .salt .now) (a .e) (a .seeds .now) (s .pre .3)
+    (bytes-of (k .before .before .before .before .shared-slice-known3 .given)) (bytes-of (k .before .before .before .shared-slice-known4 .given))
+    (bytes-of (k .before .before .shared-slice-known5 .given)) (bytes-of (k .shared-slice-known7 .given)) known
 
 pub share-rows-spec : {M : Type 1} → statement M
 share-rows-spec =
     tie.close
-    (tie.spec
-    mul-bits
-    cast-bits
-    slice-aggregate-tables
-    tables-requires
-    slice-aggregate-far-values
-    far-values-requires
-    slice-aggregate-load
-    load-requires
-    sub-sum
-    part-sum-start
-    part-sum-end
-    sum-requires
-    slice-aggregate-sum
-    sum-requires-2
-    mul-requires
-    slice-aggregate-seed-rows
-    sub-seed-rows
-    part-seed-rows-start
-    part-seed-rows-end
-    slice-aggregate-seed-rows-2
-    seed-rows-requires
-    same-length
-    returns)
+    (tie.spec (λ c. search needs) (λ c. search needs) (λ c. search needs) (λ c κs. search needs) (λ c. search needs) (λ c κs. search needs)
+    (λ c. search needs) load-requires (λ c. search needs) (λ c. search needs) (λ c. search needs) (λ c κs. search needs) (λ c. search needs)
+    (λ c κs. search needs) mul-requires (λ c. search needs) (λ c. search needs) (λ c. search needs) (λ c. search needs) (λ c. search needs)
+    seed-rows-requires (λ c. search needs) returns)

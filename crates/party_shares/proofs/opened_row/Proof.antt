@@ -7,7 +7,6 @@ use borrow.Author.Needs.{needs}
 use borrow.Rule.Slice.PartMut.{same-len-mid}
 use Rattle.slices.specs.Numbers.{length-numbers}
 use Rattle.sets.specs.Bounds.{by-ten}
-use Rattle.forms.specs.Party.{workedA}
 use Rattle.party_shares.proofs.Laws.{part-long, load-fits, front-long, rest-long, put-both, a-worked, b-worked}
 use Rattle.party_shares.proofs.opened_row.Statement.{statement}
 use Rattle.party_shares.proofs.opened_row.Tie as tie
@@ -29,12 +28,12 @@ opened-a-requires c κs =
 opened-b-requires : tie.Need-opened-b-requires
 opened-b-requires c κs =
     let a = c .before .before .before .before in
-    let s = c .before .before .before .before .before .before .before .before .before .before .before .before .before .before .before .before .before .before in
+    let s = a .before .before .before .before .before .before .before .before .before .before .before .before .before .before in
     let p = s .pre in
     let d = s .args .out .now in
     let h = 10 * s .args .shape .wide in
     let kept = same-len-mid 0 (h - 0) d (a .opened-a .last .1 .1 .1 .1 .1 .1 .0) (a .opened-a .kept .1 .1 .1 .1 .1 .1 .0) in
-    (p .0, p .2, p .4, ap length (c .before .before .before .before .before .before .before .before .before .load .ensures), rest-long d _ h kept (omega (arith, p .6)))
+    (p .0, p .2, p .4, ap length (a .before .before .before .before .before .load .ensures), rest-long d _ h kept (omega (arith, p .6)))
 
 returns : tie.Need-returns
 returns c =

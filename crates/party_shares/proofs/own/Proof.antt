@@ -8,10 +8,13 @@ returns : tie.Need-returns
 returns c =
     let x = c .before .before in
     let test = x .before .before in
-    own-first (test .before .before .before .before .before .before .before .before .args .offset .now) (test .before .before .before .copy .ensures) (test .if1 .taken) (x .xor-into .ensures)
+    let s = test .before .before .before .before .before .before .before .before in
+    own-first (s .args .offset .now) (test .before .before .before .copy .ensures) (test .if1 .taken) (x .xor-into .ensures)
 
 returns-2 : tie.Need-returns-2
-returns-2 c = own-other (c .before .before .before .before .before .before .before .before .args .offset .now) (c .before .before .before .copy .ensures) (c .if1 .left)
+returns-2 c =
+    let s = c .before .before .before .before .before .before .before .before in
+    own-other (s .args .offset .now) (c .before .before .before .copy .ensures) (c .if1 .left)
 
 pub own-spec : {M : Type 1} → statement M
 own-spec =

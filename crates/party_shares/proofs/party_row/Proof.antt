@@ -13,8 +13,11 @@ use Rattle.party_shares.proofs.Laws.{rest-long, row-is, put-row}
 use Rattle.party_shares.proofs.party_row.Statement.{statement}
 use Rattle.party_shares.proofs.party_row.Tie as tie
 
+abbrev walked : tie.After-store-arg → tie.After-walk
+walked c = c .before .before .before .before .before .before .before .before .before
+
 abbrev start : tie.After-store-arg → tie.Start
-start c = c .before .before .before .before .before .before .before .before .before .before .before .before .before .before .before .before .before .before .before .before .before
+start c = walked c .before .before .before .before .before .before .before .before .before .before .before .before
 
 abbrev wide : tie.After-store-arg → ℕ
 wide c = start c .args .shape .wide
@@ -62,7 +65,7 @@ opened-row-requires c κs =
     let s = start (k .before) in
     let g = s .pre .0 in
     let l = k .store .last .0 in
-    let w = c .before .before .before .before .before .before .before .before .before .before .before .before .before .before .before .before .walk in (
+    let w = walked (k .before) .walk in (
       g .valid,
       g .first-size,
       g .tables-size,
@@ -86,8 +89,8 @@ returns c =
     let b = bytesOf n (o .opened-c .result) in
     let z = r .opened-row .last .1 .1 .1 .1 .1 .1 .1 .0 in
     let all = rest-long l l (16 + n) refl (long k) in
-    put-row n (a .out .now) (y .copy .last .0) b z (size (k .before)) (copied (k .before)) (length-bytesOf n (o .opened-c .result)) (k .store .ensures)
-    (same k) (r .opened-row .kept .1 .1 .1 .1 .1 .1 .1 .0 ∙ all)
+    put-row n (a .out .now) (y .copy .last .0) b z (size (k .before)) (copied (k .before)) (length-bytesOf n (o .opened-c .result))
+    (k .store .ensures) (same k) (r .opened-row .kept .1 .1 .1 .1 .1 .1 .1 .0 ∙ all)
     ∙ row-is (s .pre .0 .valid) (a .front .now) (a .key .now) (a .inverse .now) (a .product .now) (a .first .now) (a .far .now) (a .given)
     (a .tables .now) (a .last) (a .i) (a .tape .now) (y .copy .ensures ∙ w .walk .ensures .0) (w .walk .ensures .1 .0) (w .walk .ensures .1 .1)
     (o .opened-c .ensures) (r .opened-row .ensures)

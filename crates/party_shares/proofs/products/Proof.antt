@@ -1,7 +1,6 @@
 -- `party_shares::products` meets its contract. Assumes nothing.
-use mathlib.Core.Path.{_≡_, sym, _∙_}
+use mathlib.Core.Path.{sym, _∙_}
 use native.Mathlib.Omega.{arith}
-use lib.ListN.{length}
 use borrow.Author.Needs.{needs}
 use Rattle.sets.specs.Bounds.{by-points}
 use Rattle.party_shares.proofs.Laws.{part-long, load-fits, products-are}

@@ -20,7 +20,9 @@ own-requires-2 c κs =
 
 aes-circuit-requires : tie.Need-aes-circuit-requires
 aes-circuit-requires c κs =
-    (one-small (c .before .before .before .before .before .before .before .before .before .before .before .before .before .before .before .before .before .before .before .args .i) (c .before .before .before .one .ensures), (search needs, (search needs, (search needs, search needs))))
+    let o = c .before .before .before in
+    let s = o .before .before .before .before .before .before .before .before .before .before .before .before .before .before .before .before in
+    (one-small (s .args .i) (o .one .ensures), (search needs, (search needs, (search needs, search needs))))
 
 returns : tie.Need-returns
 returns c =
