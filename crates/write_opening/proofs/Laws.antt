@@ -1,5 +1,5 @@
 -- Parts of rows, and a slice written part by part, each lent to a call. Assumes nothing.
-use mathlib.Core.Path.{_≡_, refl, sym, ap, ap₂, subst, _∙_}
+use mathlib.Core.Path.{_≡_, refl, sym, ap, subst, _∙_}
 use mathlib.Core.List.{List, [], _∷_, _++_, append-nil, append-assoc}
 use Prim.Native.Nat.{ℕ, zero, suc, _+_, _-_, _*_, _≤_, _<_}
 use native.Mathlib.Omega.{arith}
@@ -66,3 +66,7 @@ wrote-stored x {d} {p} {l} {n} w h =
 -- all elements are written
 pub wrote-whole : {d p l : List ℕ} {n : ℕ} → Wrote d p n l → length d ≤ n → l ≡ p
 wrote-whole {d} {p} {l} {n} w h = wrote-all w ∙ ap (p ++_) (drop-of-length-le d h) ∙ append-nil p
+
+-- five lists written so
+pub five : (a b c d e : List ℕ) → (((a ++ b) ++ c) ++ d) ++ e ≡ a ++ (b ++ (c ++ (d ++ e)))
+five a b c d e = simp append-assoc

@@ -1,8 +1,6 @@
 -- An opening's parts as they are written, from rows that hold each party's shares of the output, of c, a and b. Assumes nothing.
-use mathlib.Core.Path.{_≡_, refl, sym, ap, ap₂, _∙_}
-use mathlib.Core.List.{List, [], _∷_, _++_, append-assoc, append-nil}
-use Prim.Native.Nat.{ℕ, _+_, _*_, _<_}
-use lib.ListN.{length}
+use mathlib.Core.List.{List, _∷_, _++_}
+use Prim.Native.Nat.{ℕ, _+_, _*_}
 use Rattle.slices.specs.Lists.{rows, row, part}
 use Rattle.slices.specs.Layout.{total}
 use Rattle.slices.specs.Numbers.{bytesOf}

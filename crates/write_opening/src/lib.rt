@@ -1,16 +1,12 @@
 // An opening written out, field by field.
 use banquet::Shape;
 ghost use mathlib.Core.Path.{_≡_};
-ghost use mathlib.Core.List.{_∷_, _++_};
-ghost use Prim.Native.Nat.{_+_, _*_, _^_, _<_, _≤_};
+ghost use mathlib.Core.List.{_∷_};
+ghost use Prim.Native.Nat.{_+_, _*_, _<_, _≤_};
 ghost use lib.ListN.{length};
-ghost use Rattle.slices.specs.Lists.{rows as rowsOf, row, part};
 ghost use Rattle.slices.specs.Layout.{total};
-ghost use Rattle.slices.specs.Numbers.{bytesOf};
 ghost use Rattle.shake.specs.Shake128.{shake128};
 ghost use Rattle.banquet.specs.Shape.{firstChallengeLength, productPoints, openingLength};
-ghost use Rattle.banquet.specs.Sets.{aesScheme};
-ghost use Rattle.banquet.specs.Hash.{commitment};
 ghost use Rattle.banquet.specs.Tree.{siblingSeeds};
 ghost use Rattle.sets.specs.Valid.{Valid};
 ghost use Rattle.sets.specs.Bounds.{rowSizes};

@@ -1,9 +1,9 @@
 -- `write_opening::write_tail` meets its contract: the hidden party, and then the sibling seeds. Assumes nothing.
-use mathlib.Core.Path.{_≡_, _∙_}
+use mathlib.Core.Path.{_∙_}
 use mathlib.Core.List.{[], _∷_}
 use Prim.Native.Nat.{_+_, _*_, _-_, _^_, _≤_}
 use native.Mathlib.Omega.{arith}
-use lib.ListN.{length, set, length-set}
+use lib.ListN.{length, set}
 use lib.Pow.{pow-mono}
 use borrow.Author.Needs.{needs}
 use borrow.Rule.Slice.PartMut.{same-len-mid}
@@ -26,19 +26,19 @@ sibling-seeds-requires c κs =
     let d = s .args .out .now in
     (s .pre .1, s .pre .2, lent-long (length d) (hidden s) (omega arith) ∙ omega (arith, s .pre), deep s)
 
+same-length : tie.Need-same-length
+same-length c =
+    let h = c .before .before .sibling-seeds in
+    let s = c .before .before .before .before .before .before .before in
+    let d = s .args .out .now in
+    same-len-mid 1 (length d - 1) (set d 0 (s .args .hidden)) (h .last .1 .1 .1 .1 .1 .1 .0) (h .kept .1 .1 .1 .1 .1 .1 .0) ∙ hidden s .long
+
 returns : tie.Need-returns
 returns c =
     let h = c .before .before .sibling-seeds in
     let s = c .before .before .before .before .before .before .before in
     let d = s .args .out .now in
     wrote-whole (wrote-lent _ (length d) (hidden s) (omega (arith, s .pre)) (omega arith) (h .ensures) (h .kept .1 .1 .1 .1 .1 .1 .0)) (omega arith)
-
-same-length : tie.Need-same-length
-same-length c =
-    let s = c .before .before .before .before .before .before .before in
-    same-len-mid 1 (length (s .args .out .now) - 1) (set (s .args .out .now) 0 (s .args .hidden)) (c .before .before .sibling-seeds .last .1 .1 .1 .1 .1 .1 .0)
-    (c .before .before .sibling-seeds .kept .1 .1 .1 .1 .1 .1 .0)
-    ∙ hidden s .long
 
 pub write-tail-spec : {M : Type 1} → statement M
 write-tail-spec =

@@ -1,0 +1,103 @@
+-- What is written is the opening of the definitions, where the seeds, the offsets and the rows of shares are right. Assumes nothing.
+use mathlib.Core.Path.{_≡_, ap, ap₂, subst, _∙_}
+use mathlib.Core.List.{List, [], _∷_, _++_, append-assoc, append-nil}
+use Prim.Native.Nat.{ℕ, _<_}
+use native.Mathlib.Omega.{arith}
+use lib.ListN.{length}
+use Rattle.slices.specs.Lists.{rows, row}
+use Rattle.slices.specs.Tab.{rows-cong}
+use Rattle.slices.specs.Numbers.{bytesOf}
+use Rattle.slices.specs.Layout.{layout}
+use Rattle.shake.specs.Shake128.{shake128}
+use Rattle.banquet.specs.declared.Shape.{Shape}
+use Rattle.banquet.specs.Sets.{aesScheme}
+use Rattle.banquet.specs.Hash.{commitment, tape}
+use Rattle.banquet.specs.Tree.{nodeSeeds, leaves, siblingSeeds}
+use Rattle.banquet.specs.Key.{frontOf}
+use Rattle.banquet.specs.Execution.{Committed, Challenge, challenge}
+use Rattle.banquet.specs.Signer.{seedOf, tapeOf, ownCommitted, productOffsets}
+use Rattle.banquet.specs.Opening.{transcript, opening}
+use Rattle.tree.specs.Rows.{row-leaf}
+use Rattle.sets.specs.Valid.{Valid}
+use Rattle.forms.specs.Party.{shareRow, committed}
+use Rattle.write_opening.specs.Written.{outputs, opened, written}
+use Rattle.write_opening.specs.Tapes.{key-cong, inverses-cong, offsets-cong}
+use Rattle.write_opening.specs.Columns.{shares, shareC, shareA, shareB, outputs-are, opened-are}
+
+assembled : (salt first bytes wc wa wb tail : List ℕ) (e : ℕ) {c c′ u u′ k k′ y y′ o o′ w : List ℕ} → c ≡ c′ → u ≡ u′ → k ≡ k′ → y ≡ y′ → o ≡ o′
+    → w ≡ wc ++ (wa ++ wb) → (salt ++ e ∷ c) ++ (u ++ ((k ++ (y ++ (first ++ (o ++ bytes)))) ++ (w ++ tail)))
+    ≡ layout (salt ∷ (e ∷ []) ∷ c′ ∷ u′ ∷ k′ ∷ y′ ∷ first ∷ o′ ∷ bytes ∷ wc ∷ wa ∷ wb ∷ []) ++ tail
+unfolding layout
+assembled salt first bytes wc wa wb tail e p q r s t v = rw (p, q, r, s, t, v) (simp (append-assoc, append-nil))
+
+module _ (S : Shape) (key publicKey salt root firstBytes : List ℕ) (e R : ℕ) (seeds : List ℕ) where
+  open Shape S using (parties, depth, wide)
+
+  -- the parties' tapes, from the seeds in rows
+  abbrev tapes : ℕ → List ℕ
+  tapes i = tape (aesScheme S) salt e i (row 16 i seeds)
+
+  -- what stands in the rows of seeds, in the offsets and in the rows of shares
+  pub record Made (front keyOffset inverseOffsets offsets s : List ℕ) : Type 0 where
+    pub seeds-are : (i : ℕ) → i < parties → row 16 i seeds ≡ seedOf (aesScheme S) salt root e i
+    pub key-is : keyOffset ≡ ownCommitted (aesScheme S) tapes front key .keyOffset
+    pub inverses-are : inverseOffsets ≡ ownCommitted (aesScheme S) tapes front key .inverseOffsets
+    pub offsets-are : offsets ≡ productOffsets (aesScheme S) tapes front key firstBytes
+    pub rows-are : s ≡ rows (λ i. shareRow (aesScheme S) (committed front keyOffset inverseOffsets) (challenge (aesScheme S) firstBytes offsets R) i (tapes i))
+        parties
+
+  module _ {k y o s : List ℕ} (m : Made (frontOf (aesScheme S) publicKey) k y o s) (hidden : ℕ) where
+    abbrev t : ℕ → List ℕ
+    t = tapeOf (aesScheme S) salt root e
+
+    abbrev f : List ℕ
+    f = frontOf (aesScheme S) publicKey
+
+    abbrev x : Committed
+    x = ownCommitted (aesScheme S) t f key
+
+    abbrev off : List ℕ
+    off = productOffsets (aesScheme S) t f key firstBytes
+
+    abbrev d : Challenge
+    d = challenge (aesScheme S) firstBytes off R
+
+    same : (i : ℕ) → i < parties → tapes i ≡ t i
+    same i l = ap (tape (aesScheme S) salt e i) (m .seeds-are i l)
+
+    k-is : k ≡ x .keyOffset
+    k-is = m .key-is ∙ key-cong (aesScheme S) same f key
+
+    y-is : y ≡ x .inverseOffsets
+    y-is = m .inverses-are ∙ inverses-cong (aesScheme S) same f key
+
+    o-is : o ≡ off
+    o-is = m .offsets-are ∙ offsets-cong (aesScheme S) same f key firstBytes
+
+    s-is : s ≡ rows (shares S x d t) parties
+    s-is =
+        m .rows-are
+        ∙ rows-cong parties
+        (λ i l.
+        ap₂ (λ k y. shareRow (aesScheme S) (committed f k y) (challenge (aesScheme S) firstBytes o R) i (tapes i)) k-is y-is
+        ∙ ap₂ (λ o t. shareRow (aesScheme S) x (challenge (aesScheme S) firstBytes o R) i t) o-is (same i l))
+
+    commitments-are : rows (λ i. commitment (aesScheme S) salt e i (row 16 i seeds)) parties
+        ≡ rows (λ i. commitment (aesScheme S) salt e i (seedOf (aesScheme S) salt root e i)) parties
+    commitments-are = rows-cong parties (λ i l. ap (commitment (aesScheme S) salt e i) (m .seeds-are i l))
+
+    is-opening : written S salt e root hidden seeds k y firstBytes o R s ≡ opening (aesScheme S) key publicKey salt root firstBytes e R hidden
+    unfolding written opening transcript
+    is-opening =
+        assembled salt firstBytes (bytesOf wide R) (rows (shareC S x d t) parties) (rows (shareA S x d t) parties) (rows (shareB S x d t) parties)
+        (hidden ∷ siblingSeeds shake128 salt e depth 0 root hidden) e commitments-are
+        (ap (outputs S) s-is ∙ outputs-are S x d t) k-is y-is o-is (ap (opened S) s-is ∙ opened-are S x d t)
+
+  pub written-opening : {front k y o s : List ℕ} → front ≡ frontOf (aesScheme S) publicKey → Made front k y o s → (hidden : ℕ)
+      → written S salt e root hidden seeds k y firstBytes o R s ≡ opening (aesScheme S) key publicKey salt root firstBytes e R hidden
+  written-opening {front} {k} {y} {o} {s} h m hidden = is-opening (subst (λ f. Made f k y o s) h m) hidden
+
+  -- the seeds as the tree gives them
+  pub leaf-seeds : Valid S → length root ≡ 16 → seeds ≡ nodeSeeds (leaves shake128 salt e depth 0 root)
+      → (i : ℕ) → i < parties → row 16 i seeds ≡ seedOf (aesScheme S) salt root e i
+  leaf-seeds v h w i l = ap (row 16 i) w ∙ row-leaf salt e depth 0 root h i (omega (arith, v .leaves))
