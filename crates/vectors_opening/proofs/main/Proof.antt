@@ -1,0 +1,23 @@
+-- `vectors_opening::main` is safe and ends. Assumes nothing.
+use mathlib.Core.Path.{_≡_}
+use Prim.Native.Nat.{_≤_, _-_}
+use lib.ListN.{length}
+use borrow.Author.Needs.{needs}
+use Rattle.vectors_opening.proofs.main.Statement.{statement}
+use Rattle.vectors_opening.proofs.main.Tie as tie
+
+abbrev Inv-loop : tie.InvT-loop
+Inv-loop text n inputs₀ opening₀ at₀ inputs opening at =
+    (at ≤ n) × (n ≤ 65536) × (length text ≡ 65536) × (length inputs ≡ 141) × (length opening ≡ 2555)
+
+abbrev μ-loop : tie.MeasureT-loop
+μ-loop text n inputs₀ opening₀ at₀ inputs opening at = n - at
+
+pub main-spec : {M : Type 1} → statement M
+main-spec =
+    tie.close
+    (tie.spec Inv-loop μ-loop (λ c κs. search needs) (λ c. search needs) (λ c κs. search needs) (λ c. search needs) (λ c. search needs)
+    (λ c κs. search needs) (λ c. search needs) (λ c. search needs) (λ c. search needs) (λ c. search needs) (λ c. search needs)
+    (λ c. search needs) (λ c κs. search needs) (λ c. search needs) (λ c. search needs) (λ c. search needs) (λ c. search needs)
+    (λ c. search needs) (λ c κs. search needs) (λ c κs. search needs) (λ c. search needs) (λ c. search needs)
+    (λ c. search needs))
