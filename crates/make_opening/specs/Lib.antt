@@ -1,3 +1,2 @@
 -- The steps of opening an execution.
 pub mod Steps
-pub mod Answers

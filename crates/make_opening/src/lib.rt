@@ -1,5 +1,4 @@
-// An execution opened by the holder of the key, for any parameter set.
-use banquet::Answer;
+// An opening made by the holder of the key, for any parameter set.
 use banquet::Shape;
 ghost use mathlib.Core.Path.{_≡_};
 ghost use Prim.Native.Nat.{_+_, _*_, _^_, _<_, _≤_};
@@ -12,7 +11,6 @@ ghost use Rattle.banquet.specs.Sets.{aesScheme};
 ghost use Rattle.banquet.specs.Answer.{outputAfter};
 ghost use Rattle.banquet.specs.Tree.{nodeSeeds, leaves};
 ghost use Rattle.banquet.specs.Opening.{opening};
-ghost use Rattle.banquet.specs.Calls.{openExecution};
 ghost use Rattle.sets.specs.Valid.{Valid};
 ghost use Rattle.sets.specs.Bounds.{rowSizes};
 ghost use Rattle.scratch.specs.Scratch.{Scratch};
@@ -149,7 +147,7 @@ fn make_rows(
 }
 
 // The opening into the front of out; the work slice's front is scratch.
-fn make(
+pub fn make(
     shape: Shape,
     key: &[u8],
     public: &[u8],
@@ -195,177 +193,10 @@ fn make(
 }
 
 // The bytes of an opening.
-fn opening_length(shape: Shape) -> usize
+pub fn opening_length(shape: Shape) -> usize
     requires { ⌜ Valid shape ⌝ }
     ensures { λ r. ⌜ r ≡ openingLength shape ⌝ }
 {
     let sizes = sets::transcript_sizes(shape);
     fields::offset(&sizes, 12) + (1 + shape.depth * 16)
-}
-
-// The call where lengths and numbers are right: 11 and 12, and else the opening.
-fn open_key(
-    shape: Shape,
-    key: &[u8],
-    public: &[u8],
-    salt: &[u8],
-    root: &[u8],
-    first: &[u8],
-    e: usize,
-    second: u64,
-    hidden: usize,
-    out: &mut [u8],
-    work: &mut [u8],
-) -> Answer
-    requires { ⌜ Lengths shape (now key) (now public) (now salt) (now root) (now first)
-        × Ranges shape e second hidden × (openingLength shape ≤ length (now out)) × (65536 ≤ length (now work)) ⌝ }
-    ensures { λ r. ⌜ r
-        ≡ openExecution (aesScheme shape) (now (key .entry)) (now (public .entry)) (now (salt .entry)) (now (root .entry)) (now (first .entry))
-        e second hidden (now (out .entry)) (now (work .entry)) .answer ⌝ }
-    ensures { λ _. ⌜ now (out .exit)
-        ≡ openExecution (aesScheme shape) (now (key .entry)) (now (public .entry)) (now (salt .entry)) (now (root .entry)) (now (first .entry))
-        e second hidden (now (out .entry)) (now (work .entry)) .output ⌝ }
-    ensures { λ _. ⌜ now (work .exit)
-        ≡ openExecution (aesScheme shape) (now (key .entry)) (now (public .entry)) (now (salt .entry)) (now (root .entry)) (now (first .entry))
-        e second hidden (now (out .entry)) (now (work .entry)) .work ⌝ }
-{
-    let mut inputs = [0u8; 200];
-    let ciphertext = cipher::encrypt(key, &public[0..16], &mut inputs);
-    let zero = cipher::first_zero(&inputs);
-    if zero < 200 {
-        return Answer::ZeroInput(zero as u8);
-    }
-    if !slices::equal(&ciphertext, &public[16..32]) {
-        return Answer::WrongKey;
-    }
-    let mut inverses = inputs;
-    cipher::invert(&mut inverses);
-    make(
-        shape,
-        key,
-        public,
-        salt,
-        root,
-        first,
-        e as u8,
-        second,
-        hidden,
-        &inputs,
-        &inverses,
-        out,
-        work,
-    );
-    scratch::clear(work);
-    Answer::Accepted
-}
-
-// The call where lengths are right: 8, 9 and 10.
-fn open_ranges(
-    shape: Shape,
-    key: &[u8],
-    public: &[u8],
-    salt: &[u8],
-    root: &[u8],
-    first: &[u8],
-    e: usize,
-    second: u64,
-    hidden: usize,
-    out: &mut [u8],
-    work: &mut [u8],
-) -> Answer
-    requires { ⌜ Lengths shape (now key) (now public) (now salt) (now root) (now first)
-        × (second < 2 ^ (8 * shape .wide)) × (openingLength shape ≤ length (now out)) × (65536 ≤ length (now work)) ⌝ }
-    ensures { λ r. ⌜ r
-        ≡ openExecution (aesScheme shape) (now (key .entry)) (now (public .entry)) (now (salt .entry)) (now (root .entry)) (now (first .entry))
-        e second hidden (now (out .entry)) (now (work .entry)) .answer ⌝ }
-    ensures { λ _. ⌜ now (out .exit)
-        ≡ openExecution (aesScheme shape) (now (key .entry)) (now (public .entry)) (now (salt .entry)) (now (root .entry)) (now (first .entry))
-        e second hidden (now (out .entry)) (now (work .entry)) .output ⌝ }
-    ensures { λ _. ⌜ now (work .exit)
-        ≡ openExecution (aesScheme shape) (now (key .entry)) (now (public .entry)) (now (salt .entry)) (now (root .entry)) (now (first .entry))
-        e second hidden (now (out .entry)) (now (work .entry)) .work ⌝ }
-{
-    if e >= shape.executions {
-        return Answer::ExecutionRange;
-    }
-    if hidden >= shape.parties {
-        return Answer::HiddenPartyRange;
-    }
-    if second < (shape.m2 as u64) {
-        return Answer::SecondChallengeRange;
-    }
-    open_key(
-        shape,
-        key,
-        public,
-        salt,
-        root,
-        first,
-        e,
-        second,
-        hidden,
-        out,
-        work,
-    )
-}
-
-// The call, which refuses by lengths first.
-pub fn open(
-    shape: Shape,
-    key: &[u8],
-    public: &[u8],
-    salt: &[u8],
-    root: &[u8],
-    first: &[u8],
-    e: usize,
-    second: u64,
-    hidden: usize,
-    out: &mut [u8],
-    work: &mut [u8],
-) -> Answer
-    requires { ⌜ Valid shape × (second < 2 ^ (8 * shape .wide)) ⌝ }
-    ensures { λ r. ⌜ r
-        ≡ openExecution (aesScheme shape) (now (key .entry)) (now (public .entry)) (now (salt .entry)) (now (root .entry)) (now (first .entry))
-        e second hidden (now (out .entry)) (now (work .entry)) .answer ⌝ }
-    ensures { λ _. ⌜ now (out .exit)
-        ≡ openExecution (aesScheme shape) (now (key .entry)) (now (public .entry)) (now (salt .entry)) (now (root .entry)) (now (first .entry))
-        e second hidden (now (out .entry)) (now (work .entry)) .output ⌝ }
-    ensures { λ _. ⌜ now (work .exit)
-        ≡ openExecution (aesScheme shape) (now (key .entry)) (now (public .entry)) (now (salt .entry)) (now (root .entry)) (now (first .entry))
-        e second hidden (now (out .entry)) (now (work .entry)) .work ⌝ }
-{
-    if key.len() != 16 {
-        return Answer::KeyLength;
-    }
-    if public.len() != 32 {
-        return Answer::PublicKeyLength;
-    }
-    if salt.len() != 32 {
-        return Answer::SaltLength;
-    }
-    if first.len() != shape.m1 * shape.wide {
-        return Answer::SaltLength;
-    }
-    if root.len() != 16 {
-        return Answer::SeedLength;
-    }
-    if out.len() < opening_length(shape) {
-        return Answer::FileLength;
-    }
-    if work.len() < 65536 {
-        return Answer::WorkLength;
-    }
-    open_ranges(
-        shape,
-        key,
-        public,
-        salt,
-        root,
-        first,
-        e,
-        second,
-        hidden,
-        out,
-        work,
-    )
 }

@@ -43,7 +43,7 @@ pub fn open(
         e second hidden (now (output .entry)) (now (work .entry)) .work ⌝ }
 {
     let shape = BASE;
-    make_opening::open(
+    open_execution::open_execution(
         shape,
         key,
         public,

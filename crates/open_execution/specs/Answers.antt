@@ -48,10 +48,10 @@ module _ {S : Shape} (v : Valid S) (key publicKey salt root first : List ℕ) (e
 
   -- the contract, where the answer is a and the slices hold o and w
   abbrev pub Called : Answer → List ℕ → List ℕ → Type 0
-  Called a o w = (a ≡ answer) × (o ≡ output-left answer) × (w ≡ workAfter answer work)
+  Called a o w = (a ≡ answer) × ((o ≡ output-left answer) × (w ≡ workAfter answer work))
 
   called : {a : Answer} {o w : List ℕ} → answer ≡ a → o ≡ output-left a → w ≡ workAfter a work → Called a o w
-  called q p r = (sym q, p ∙ ap output-left (sym q), r ∙ ap (λ a. workAfter a work) (sym q))
+  called q p r = (sym q, (p ∙ ap output-left (sym q), r ∙ ap (λ a. workAfter a work) (sym q)))
 
   public-length : publicKeyLength S ≡ 32
   public-length = ap (_+ 16) (v .plaintext)

@@ -1,0 +1,57 @@
+-- What the offsets and the rows of shares are worked out to is what the opening is made of. Assumes nothing.
+use mathlib.Core.Path.{_≡_, refl, sym, ap, _∙_}
+use mathlib.Core.List.{List}
+use Prim.Native.Nat.{ℕ, _<_}
+use lib.ListN.{length, take}
+use Rattle.slices.specs.Lists.{rows, row, zipXor, sumXor}
+use Rattle.shake.specs.Shake128.{shake128}
+use Rattle.banquet.specs.declared.Shape.{Shape}
+use Rattle.banquet.specs.Sets.{aesScheme}
+use Rattle.banquet.specs.Hash.{tape}
+use Rattle.banquet.specs.Tree.{nodeSeeds, leaves}
+use Rattle.banquet.specs.Key.{frontOf}
+use Rattle.banquet.specs.Execution.{challenge, tapePart}
+use Rattle.banquet.specs.Opening.{opening}
+use Rattle.theorems.specs.Shares.{IsTape, hashed-tape}
+use Rattle.sets.specs.Valid.{Valid}
+use Rattle.sets.specs.Laws.{laws}
+use Rattle.forms.specs.Party.{committed, shareRow}
+use Rattle.forms.specs.Offsets.{workedOffsets, key-offset, inverse-offsets, product-offsets}
+use Rattle.write_opening.specs.Written.{written}
+use Rattle.write_opening.specs.Opening.{Made, written-opening, leaf-seeds}
+use Rattle.make_opening.specs.Steps.{Inverted, AtPoints}
+
+module _ {S : Shape} (v : Valid S) (key public salt root first seeds : List ℕ) (e second hidden : ℕ) where
+  open Shape S using (parties, depth)
+
+  abbrev tapes : ℕ → List ℕ
+  tapes i = tape (aesScheme S) salt e i (row 16 i seeds)
+
+  abbrev front : List ℕ
+  front = frontOf (aesScheme S) public
+
+  drawn : (i : ℕ) → i < parties → IsTape (aesScheme S) (laws v) (tapes i)
+  drawn i l = hashed-tape (aesScheme S) (laws v) salt e i (row 16 i seeds)
+
+  -- the offsets as `signer` leaves them, the rows as `execution` does
+  module _ {inputs inverses us vs lasts k y o s : List ℕ} (root-size : length root ≡ 16)
+      (seeds-is : seeds ≡ nodeSeeds (leaves shake128 salt e depth 0 root)) (i : Inverted S key public inputs inverses)
+      (p : AtPoints S inputs inverses us vs lasts) (k-is : k ≡ zipXor key (tapePart (aesScheme S) 0 (sumXor parties tapes)))
+      (y-is : y ≡ zipXor inverses (tapePart (aesScheme S) 1 (sumXor parties tapes)))
+      (o-is : o ≡ workedOffsets S us vs lasts (sumXor parties tapes) first)
+      (s-is : s ≡ rows (λ i. shareRow (aesScheme S) (committed (take 16 public) k y) (challenge (aesScheme S) first o second) i (tapes i)) parties)
+    where
+      made : Made S key public salt root first e second seeds front k y o s
+      made = record {
+        seeds-are = leaf-seeds S key public salt root first e second seeds v root-size seeds-is;
+        key-is = k-is ∙ key-offset v drawn front key;
+        inverses-are = y-is ∙ inverse-offsets v drawn front key (i .inverses-is);
+        offsets-are = o-is ∙ product-offsets v drawn front key (i .inputs-is) (i .inverses-is) (p .us-is) (p .vs-is) (p .lasts-is) first;
+        rows-are = s-is
+            ∙ ap (λ n. rows (λ i. shareRow (aesScheme S) (committed (take n public) k y) (challenge (aesScheme S) first o second) i (tapes i)) parties)
+            (sym (v .plaintext));
+      }
+
+      pub opening-made : {out : List ℕ} → out ≡ written S salt e root hidden seeds k y first o second s
+          → out ≡ opening (aesScheme S) key public salt root first e second hidden
+      opening-made h = h ∙ written-opening S key public salt root first e second seeds refl made hidden

@@ -1,0 +1,52 @@
+-- `make_opening::make` meets its contract. Assumes nothing.
+use mathlib.Core.Path.{refl, sym, ap, _∙_}
+use Prim.Native.Nat.{_*_, _≤_}
+use native.Mathlib.Omega.{arith}
+use lib.ListN.{length}
+use borrow.Author.Needs.{needs}
+use Rattle.sets.specs.Bounds.{leaves-most, rows-most}
+use Rattle.party_shares.proofs.Laws.{front-long}
+use Rattle.make_opening.proofs.Laws.{front-output, front-scratch}
+use Rattle.make_opening.proofs.make.Statement.{statement}
+use Rattle.make_opening.proofs.make.Tie as tie
+
+-- the rows' count of bytes
+counted : (c : tie.After-row-length) → c .before .before .before .before .before .before .before .before .before .before .before .args .shape .parties * c .row-length .result ≤ 18176
+counted c = rw (c .row-length .ensures) (rows-most (c .before .before .before .before .before .before .before .before .before .before .before .pre .0 .valid))
+
+make-rows-requires : tie.Need-make-rows-requires
+make-rows-requires c κs =
+    let s = c .before .before .before .before .before .before .before .before .before .before .before .before .before .before .before .before in
+    let p = s .pre in
+    let v = p .0 .valid in
+    let room = counted (c .before .before .before .before .before) in (
+      p .0,
+      p .1,
+      p .2,
+      front-long _ (c .before .before .before .before .before .before .leaf-bytes .ensures) (omega (arith, c .before .before .before .before .before .before .leaf-bytes .ensures, leaves-most v)),
+      front-long _ (ap (λ n. s .args .shape .parties * n) (c .before .before .before .before .before .row-length .ensures)) (omega (arith, room, p .4)),
+      front-long _ (c .before .before .before .opening-length .ensures) (omega (arith, c .before .before .before .opening-length .ensures, p .3)),
+    )
+
+returns : tie.Need-returns
+returns c =
+    let s = c .before .before .before .before .before .before .before .before .before .before .before .before .before .before .before .before .before .before .before .before .before .before in
+    let d = s .args .out .now in
+    let w = s .args .work .now in
+    let p = s .pre in
+    let room = counted (c .before .before .before .before .before .before .before .before .before .before .before) in
+    let size = c .before .before .before .before .before .before .before .before .before .opening-length in
+    let m = c .before .before .before .before .before .make-rows in (
+      front-output (size .result) d (m .ensures)
+          (ap length (sym (m .ensures)) ∙ m .kept .1 .1 .1 .1 .1 .1 .1 .1 .1 .1 .1 .1 .1 .0 ∙ front-long d (size .ensures) (omega (arith, size .ensures, p .3)) ∙ sym (size .ensures)),
+      front-scratch (s .args .shape .parties * c .before .before .before .before .before .before .before .before .before .before .before .row-length .result) w (m .last .1 .1 .1 .1 .1 .1 .1 .1 .1 .1 .1 .1 .0) (omega (arith, room)) (omega (arith, room, p .4))
+          (m .kept .1 .1 .1 .1 .1 .1 .1 .1 .1 .1 .1 .1 .0 ∙ front-long w refl (omega (arith, room, p .4))),
+    )
+
+pub make-spec : {M : Type 1} → statement M
+make-spec =
+    tie.close
+    (tie.spec (λ c κs. search needs) (λ c κs. search needs) (λ c. omega (arith, counted (c .before))) (λ c κs. search needs) (λ c. search needs)
+    (λ c. search needs) (λ c. omega (arith, c .before .before .before .leaf-bytes .ensures, leaves-most (c .before .before .before .before .before .before .before .before .before .before .before .before .before .pre .0 .valid))) (λ c. search needs) (λ c. search needs)
+    (λ c. omega (arith, counted (c .before .before .before), c .before .before .before .before .before .before .before .before .before .before .before .before .before .before .pre .4)) (λ c. search needs) (λ c. search needs)
+    (λ c. omega (arith, c .before .before .opening-length .ensures, c .before .before .before .before .before .before .before .before .before .before .before .before .before .before .before .pre .3)) make-rows-requires (λ c. search needs) (λ c. search needs) returns)

@@ -1,0 +1,47 @@
+-- `make_opening::make_rows` meets its contract. Assumes nothing.
+use mathlib.Core.Path.{refl, sym}
+use Prim.Native.Nat.{_+_, _*_, _^_, _≤_}
+use native.Mathlib.Omega.{arith}
+use borrow.Author.Needs.{needs}
+use Rattle.sets.specs.Bounds.{leaves-most, by-points}
+use Rattle.party_shares.proofs.Laws.{front-long}
+use Rattle.make_opening.proofs.Laws.{inputs-long, inverses-long}
+use Rattle.make_opening.proofs.make_rows.Statement.{statement}
+use Rattle.make_opening.proofs.make_rows.Tie as tie
+
+expand-requires : tie.Need-expand-requires
+expand-requires c κs =
+    let p = c .before .before .before .before .before .before .before .before .before .before .before .pre in
+    (p .0 .salt-size, p .0 .root-size, p .3, omega (arith, leaves-most (p .0 .valid)))
+
+true-rows-requires : tie.Need-true-rows-requires
+true-rows-requires c κs =
+    let p = c .before .before .before .before .before .before .before .before .before .before .before .before .before .before .before .before .before .pre in
+    let v = p .0 .valid in (v, inputs-long v (p .2), inverses-long v (p .2), refl, refl, refl)
+
+part-products-end : tie.Need-part-products-end
+part-products-end c = let v = c .before .before .before .before .before .before .before .before .before .before .before .before .before .before .before .before .before .before .before .before .before .before .before .before .before .before .pre .0 .valid in omega (arith, v .wide-most)
+
+make-shares-requires : tie.Need-make-shares-requires
+make-shares-requires c κs =
+    let s = c .before .before .before .before .before .before .before .before .before .before .before .before .before .before .before .before .before .before .before .before .before .before .before .before .before .before .before .before .before in
+    let p = s .pre in
+    let v = p .0 .valid in
+    let t = c .before .before .before .before .before .before .before .before .before .before .before .true-rows .ensures in (
+      p .0,
+      p .1,
+      p .2,
+      record { us-is = t .0; vs-is = t .1 .0; lasts-is = t .1 .1 },
+      c .before .before .before .before .before .before .before .before .before .before .before .before .before .before .before .before .before .expand .ensures,
+      front-long _ (sym (by-points v (s .args .shape .wide))) (omega (arith, v .wide-most)),
+      p .4,
+      p .5,
+    )
+
+pub make-rows-spec : {M : Type 1} → statement M
+make-rows-spec =
+    tie.close
+    (tie.spec expand-requires (λ c. search needs) (λ c. search needs) (λ c. search needs) true-rows-requires
+    (λ c. let v = c .before .before .before .before .before .before .before .before .before .before .before .before .before .before .before .before .before .before .before .before .before .before .pre .0 .valid in omega (arith, v .wide-most)) (λ c. search needs) (λ c. search needs) (λ c. search needs)
+    (λ c. search needs) (λ c. search needs) part-products-end make-shares-requires (λ c. search needs) (λ c. search needs) (λ c. search needs)
+    (λ c. c .before .before .before .before .before .make-shares .ensures))

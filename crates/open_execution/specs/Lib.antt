@@ -1,0 +1,2 @@
+-- The call that opens an execution, case by case.
+pub mod Answers
