@@ -177,7 +177,7 @@ fn opened_row(
     opened_b(shape, tables, last, inverses, &extra, &mut out[half..whole]);
 }
 
-// All of a party's shares: output, c, a, b.
+// All of a party's shares: output, c, a, b. `key`, `inverse` and `product` are the offsets.
 pub fn party_row(
     shape: Shape,
     i: usize,
