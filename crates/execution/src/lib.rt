@@ -115,7 +115,7 @@ fn seed_rows(
     }
 }
 
-// All parties' shares under the challenge, a row for each.
+// All parties' shares under the challenge, a row for each. `key`, `inverse` and `product` are the offsets.
 pub fn share_rows(
     shape: Shape,
     salt: &[u8],

@@ -22,9 +22,10 @@ fn own(i: usize, share: &[u8], offset: &[u8], out: &mut [u8])
     ensures { λ _. ⌜ now (out .exit) ≡ ownShare i (now (share .entry)) (now (offset .entry)) ⌝ }
 {
     slices::copy(out, share);
-    if i == 0 {
-        slices::xor_into(out, offset);
+    if i != 0 {
+        return;
     }
+    slices::xor_into(out, offset);
 }
 
 // Party i's share of the number 1.
@@ -176,7 +177,7 @@ fn opened_row(
     opened_b(shape, tables, last, inverses, &extra, &mut out[half..whole]);
 }
 
-// All of a party's shares: output, c, a, b.
+// All of a party's shares: output, c, a, b. `key`, `inverse` and `product` are the offsets.
 pub fn party_row(
     shape: Shape,
     i: usize,
