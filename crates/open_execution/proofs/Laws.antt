@@ -1,0 +1,46 @@
+-- The plaintext and the ciphertext as the code takes them, and what the first zero of the S-boxes' inputs says. Assumes nothing.
+use mathlib.Core.Path.{_≡_, sym, ap, ap₂, _∙_}
+use mathlib.Core.Bool.{Bool}
+use mathlib.Core.List.{List, map}
+use Prim.Native.Nat.{ℕ, _-_, _≤_}
+use native.Mathlib.Omega.{arith}
+use lib.ListN.{length, take, drop, length-drop}
+use lib.Seq.{take-all}
+use Rattle.slices.specs.Lists.{same}
+use Rattle.field.specs.Byte.{inverse8}
+use Rattle.aes.specs.Aes.{aes, sboxInputs, firstZero}
+use Rattle.aes.specs.Sizes.{length-sboxInputs}
+use Rattle.aes.specs.Zero.{firstZero-le}
+use Rattle.banquet.specs.declared.Shape.{Shape}
+use Rattle.banquet.specs.Sets.{aesScheme}
+use Rattle.banquet.specs.Key.{zeroInput, frontOf, ciphertextOf}
+use Rattle.sets.specs.Valid.{Valid}
+use Rattle.make_opening.specs.Steps.{Inverted}
+
+module _ {S : Shape} (v : Valid S) (key public : List ℕ) where
+  abbrev front : List ℕ
+  front = frontOf (aesScheme S) public
+
+  front-is : take 16 public ≡ front
+  front-is = ap (λ n. take n public) (sym (v .plaintext))
+
+  module _ {inputs : List ℕ} (given : inputs ≡ sboxInputs key (take 16 public)) where
+    inputs-right : inputs ≡ sboxInputs key front
+    inputs-right = given ∙ ap (sboxInputs key) front-is
+
+    pub zero-found : {n : ℕ} → n ≡ firstZero inputs → n ≡ zeroInput (aesScheme S) front key
+    zero-found h = h ∙ ap firstZero inputs-right
+
+    pub none-found : {n : ℕ} → n ≡ firstZero inputs → 200 ≤ n → n ≡ 200
+    none-found h l = omega (arith, h, l, firstZero-le inputs, ap length given, length-sboxInputs key (take 16 public))
+
+    pub inverted : {inverses : List ℕ} → inverses ≡ map inverse8 inputs → Inverted S key public inputs inverses
+    inverted h = record { inputs-is = inputs-right; inverses-is = h ∙ ap (map inverse8) inputs-right }
+
+  -- the test of the ciphertext
+  pub ciphertext-tested : {ciphertext : List ℕ} {t : Bool} → length public ≡ 32 → ciphertext ≡ aes key (take 16 public)
+      → t ≡ same ciphertext (take (32 - 16) (drop 16 public))
+      → same (aesScheme S .circuit .encrypt front key) (ciphertextOf (aesScheme S) public) ≡ t
+  ciphertext-tested l c h =
+      sym (h ∙ ap₂ same (c ∙ ap (aes key) front-is)
+      (take-all 16 (drop 16 public) (omega (arith, l, length-drop 16 public)) ∙ ap (λ n. drop n public) (sym (v .plaintext))))

@@ -1,0 +1,79 @@
+-- `open_execution::open_execution` meets its contract: the lengths are tested in order. Assumes nothing.
+use native.Mathlib.Omega.{arith}
+use borrow.Author.Needs.{needs}
+use Rattle.sets.specs.Bounds.{by-ten}
+use Rattle.open_execution.specs.Answers.{key-refused, public-refused, salt-refused, first-refused, root-refused, output-refused, work-refused}
+use Rattle.open_execution.proofs.open_execution.Statement.{statement}
+use Rattle.open_execution.proofs.open_execution.Tie as tie
+
+returns : tie.Need-returns
+returns c =
+    let s = c .before .before .before .before .before .before .before .before in
+    let a = s .args in
+    key-refused (s .pre .0) (a .key .now) (a .public .now) (a .salt .now) (a .root .now) (a .first .now) (a .e) (a .second) (a .hidden) (a .out .now) (a .work .now)
+    (c .if1 .taken)
+
+returns-2 : tie.Need-returns-2
+returns-2 c =
+    let s = c .before .before .before .before .before .before .before .before .before in
+    let a = s .args in
+    public-refused (s .pre .0) (a .key .now) (a .public .now) (a .salt .now) (a .root .now) (a .first .now) (a .e) (a .second) (a .hidden) (a .out .now) (a .work .now)
+    (c .before .if1 .left) (c .if2 .taken)
+
+returns-3 : tie.Need-returns-3
+returns-3 c =
+    let s = c .before .before .before .before .before .before .before .before .before .before in
+    let a = s .args in
+    salt-refused (s .pre .0) (a .key .now) (a .public .now) (a .salt .now) (a .root .now) (a .first .now) (a .e) (a .second) (a .hidden) (a .out .now) (a .work .now)
+    (c .before .before .if1 .left) (c .before .if2 .left) (c .if3 .taken)
+
+returns-4 : tie.Need-returns-4
+returns-4 c =
+    let s = c .before .before .before .before .before .before .before .before .before .before .before .before in
+    let a = s .args in
+    first-refused (s .pre .0) (a .key .now) (a .public .now) (a .salt .now) (a .root .now) (a .first .now) (a .e) (a .second) (a .hidden) (a .out .now) (a .work .now)
+    (c .before .before .before .before .if1 .left) (c .before .before .before .if2 .left) (c .before .before .if3 .left) (c .if4 .taken)
+
+returns-5 : tie.Need-returns-5
+returns-5 c =
+    let s = c .before .before .before .before .before .before .before .before .before .before .before .before .before in
+    let a = s .args in
+    root-refused (s .pre .0) (a .key .now) (a .public .now) (a .salt .now) (a .root .now) (a .first .now) (a .e) (a .second) (a .hidden) (a .out .now) (a .work .now)
+    (c .before .before .before .before .before .if1 .left) (c .before .before .before .before .if2 .left) (c .before .before .before .if3 .left) (c .before .if4 .left) (c .if5 .taken)
+
+returns-6 : tie.Need-returns-6
+returns-6 c =
+    let s = c .before .before .before .before .before .before .before .before .before .before .before .before .before .before .before in
+    let a = s .args in
+    output-refused (s .pre .0) (a .key .now) (a .public .now) (a .salt .now) (a .root .now) (a .first .now) (a .e) (a .second) (a .hidden) (a .out .now) (a .work .now)
+    (c .before .before .before .before .before .before .before .if1 .left) (c .before .before .before .before .before .before .if2 .left) (c .before .before .before .before .before .if3 .left) (c .before .before .before .if4 .left) (c .before .before .if5 .left) (omega (arith, c .if6 .taken, c .before .opening-length .ensures))
+
+returns-7 : tie.Need-returns-7
+returns-7 c =
+    let s = c .before .before .before .before .before .before .before .before .before .before .before .before .before .before .before .before in
+    let a = s .args in
+    work-refused (s .pre .0) (a .key .now) (a .public .now) (a .salt .now) (a .root .now) (a .first .now) (a .e) (a .second) (a .hidden) (a .out .now) (a .work .now)
+    (c .before .before .before .before .before .before .before .before .if1 .left) (c .before .before .before .before .before .before .before .if2 .left) (c .before .before .before .before .before .before .if3 .left) (c .before .before .before .before .if4 .left) (c .before .before .before .if5 .left)
+    (omega (arith, c .before .if6 .left, c .before .before .opening-length .ensures)) (c .if7 .taken)
+
+mul-if4 : tie.Need-mul-if4
+mul-if4 c = let s = c .before .before .before .before .before .before .before .before .before .before .before in omega (arith, by-ten (s .pre .0) (s .args .shape .wide), s .pre .0 .wide-most)
+
+open-ranges-requires : tie.Need-open-ranges-requires
+open-ranges-requires c κs =
+    let p = c .before .before .before .before .before .before .before .before .before .before .before .before .before .before .before .before .before .before .pre in
+    (record {
+      valid = p .0;
+      key-size = c .before .before .before .before .before .before .before .before .before .before .if1 .left;
+      public-size = c .before .before .before .before .before .before .before .before .before .if2 .left;
+      salt-size = c .before .before .before .before .before .before .before .before .if3 .left;
+      root-size = c .before .before .before .before .before .if5 .left;
+      first-size = c .before .before .before .before .before .before .if4 .left;
+    },
+    p .1, omega (arith, c .before .before .before .if6 .left, c .before .before .before .before .opening-length .ensures), c .before .before .if7 .left)
+
+pub open-execution-spec : {M : Type 1} → statement M
+open-execution-spec =
+    tie.close
+    (tie.spec returns returns-2 returns-3 mul-if4 returns-4 returns-5 (λ c κs. search needs) returns-6 returns-7 open-ranges-requires
+    (λ c. search needs) (λ c. search needs) (λ c. c .before .before .before .before .open-ranges .ensures))
