@@ -28,11 +28,17 @@ module _ {S : Shape} (v : Valid S) (key public : List ℕ) where
     inputs-right : inputs ≡ sboxInputs key front
     inputs-right = given ∙ ap (sboxInputs key) front-is
 
-    pub zero-found : {n : ℕ} → n ≡ firstZero inputs → n ≡ zeroInput (aesScheme S) front key
-    zero-found h = h ∙ ap firstZero inputs-right
+    -- n is the first zero of all 200
+    module _ {n : ℕ} (found : n ≡ firstZero (take 200 inputs)) where
+      all-tested : n ≡ firstZero inputs
+      all-tested =
+          found ∙ ap firstZero (take-all 200 inputs (omega (arith, ap length given, length-sboxInputs key (take 16 public))))
 
-    pub none-found : {n : ℕ} → n ≡ firstZero inputs → 200 ≤ n → n ≡ 200
-    none-found h l = omega (arith, h, l, firstZero-le inputs, ap length given, length-sboxInputs key (take 16 public))
+      pub zero-found : n ≡ zeroInput (aesScheme S) front key
+      zero-found = all-tested ∙ ap firstZero inputs-right
+
+      pub none-found : 200 ≤ n → n ≡ 200
+      none-found l = omega (arith, all-tested, l, firstZero-le inputs, ap length given, length-sboxInputs key (take 16 public))
 
     pub inverted : {inverses : List ℕ} → inverses ≡ map inverse8 inputs → Inverted S key public inputs inverses
     inverted h = record { inputs-is = inputs-right; inverses-is = h ∙ ap (map inverse8) inputs-right }

@@ -10,7 +10,7 @@ ghost use Rattle.banquet.specs.Calls.{openExecution};
 ghost use Rattle.sets.specs.Valid.{Valid};
 ghost use Rattle.make_opening.specs.Steps.{Lengths, Ranges};
 
-// The call where lengths and numbers are right: 11 and 12, and else the opening.
+// The call where lengths and numbers are right: 11 and 12, and else the opening. The key schedule's inputs are tested with the rounds'.
 fn open_key(
     shape: Shape,
     key: &[u8],
@@ -38,7 +38,7 @@ fn open_key(
 {
     let mut inputs = [0u8; 200];
     let ciphertext = cipher::encrypt(key, &public[0..16], &mut inputs);
-    let zero = cipher::first_zero(&inputs);
+    let zero = cipher::first_zero(&inputs[0..200]);
     if zero < 200 {
         return Answer::ZeroInput(zero as u8);
     }

@@ -61,16 +61,19 @@ mul-if4 c = let s = c .before .before .before .before .before .before .before .b
 
 open-ranges-requires : tie.Need-open-ranges-requires
 open-ranges-requires c κs =
-    let p = c .before .before .before .before .before .before .before .before .before .before .before .before .before .before .before .before .before .before .pre in
-    (record {
-      valid = p .0;
-      key-size = c .before .before .before .before .before .before .before .before .before .before .if1 .left;
-      public-size = c .before .before .before .before .before .before .before .before .before .if2 .left;
-      salt-size = c .before .before .before .before .before .before .before .before .if3 .left;
-      root-size = c .before .before .before .before .before .if5 .left;
-      first-size = c .before .before .before .before .before .before .if4 .left;
-    },
-    p .1, omega (arith, c .before .before .before .if6 .left, c .before .before .before .before .opening-length .ensures), c .before .before .if7 .left)
+    let p = c .before .before .before .before .before .before .before .before .before .before .before .before .before .before .before .before .before .before .pre in (
+      record {
+        valid = p .0;
+        key-size = c .before .before .before .before .before .before .before .before .before .before .if1 .left;
+        public-size = c .before .before .before .before .before .before .before .before .before .if2 .left;
+        salt-size = c .before .before .before .before .before .before .before .before .if3 .left;
+        root-size = c .before .before .before .before .before .if5 .left;
+        first-size = c .before .before .before .before .before .before .if4 .left;
+      },
+      p .1,
+      omega (arith, c .before .before .before .if6 .left, c .before .before .before .before .opening-length .ensures),
+      c .before .before .if7 .left,
+    )
 
 pub open-execution-spec : {M : Type 1} → statement M
 open-execution-spec =
