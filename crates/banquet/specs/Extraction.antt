@@ -71,6 +71,10 @@ module _ (𝓢 : Scheme) (x : Committed) (tapes : ℕ → List ℕ) where
     -- "That key is then good, or one of two things holds: one of the ten first draws, beside the other nine, balances all twenty rows, and every
     -- other value in its place leaves some row out of balance; or the check polynomial isn't zero, has at most 40 roots, and the second draw is one
     -- of them."
+    --
+    -- Where each arises. The key is good: two openings made from one root seed with a good key. One first draw: an inverse that is wrong in S-box
+    -- j+10k alone, under draws with r_j = 0; row k balances, and under any other r_j it doesn't. A root: wrong inverses under R = 20, where S_j, T_j
+    -- and P are extra points and the first product share, whatever the S-boxes are given; or under R from 21 to 40, where c is one product share.
     abbrev pub GoodOrLucky : List ℕ → Type 0
     GoodOrLucky ciphertext =
         GoodKey 𝓢 (x .front) ciphertext givenKey
@@ -98,7 +102,8 @@ module _ (𝓢 : Scheme) where
     abbrev t : List ℕ
     t = transcriptOf 𝓢 o
 
-    -- "the two show some party under two unequal seeds with one commitment"
+    -- "the two show some party under two unequal seeds with one commitment": a collision of the hash, which no one can show for SHAKE128; with a hash
+    -- that looked at the salt alone, the sibling seeds of two root seeds would do.
     abbrev pub TwoSeeds : Type 0
     TwoSeeds =
         (i : ℕ) × (i < parties) × (i ≢ hiddenOf 𝓢 o) × (i ≢ hiddenOf 𝓢 o′) × (seedsOf o i ≢ seedsOf o′ i)
