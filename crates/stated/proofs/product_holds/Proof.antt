@@ -23,24 +23,24 @@ start r = r .before .before
 field-requires : tie.Need-field-requires
 field-requires c κs =
     let r = sized1 c in
-    shares-fit (start r .pre .0) (start r .args .sums .now) (r .row-sizes .ensures) (start r .pre .1) 2 (omega arith)
+    shares-fit (start r .pre .0) (start r .args .sums .now) (r .row-sizes .ensures) (start r .pre .1) _ (omega arith)
 
 load-requires-2 : tie.Need-load-requires-2
 load-requires-2 c κs =
     let f = c .before in
     let r = sized1 (f .before) in
-    tens-fit (start r .pre .0) (start r .args .sums .now) (r .row-sizes .ensures) (start r .pre .1) 2 refl (f .field .ensures)
+    tens-fit (start r .pre .0) (start r .args .sums .now) (r .row-sizes .ensures) (start r .pre .1) _ refl (f .field .ensures)
 
 field-requires-2 : tie.Need-field-requires-2
 field-requires-2 c κs =
     let r = sized2 c in
-    shares-fit (start r .pre .0) (start r .args .sums .now) (r .row-sizes .ensures) (start r .pre .1) 3 (omega arith)
+    shares-fit (start r .pre .0) (start r .args .sums .now) (r .row-sizes .ensures) (start r .pre .1) _ (omega arith)
 
 load-requires-3 : tie.Need-load-requires-3
 load-requires-3 c κs =
     let f = c .before in
     let r = sized2 (f .before) in
-    tens-fit (start r .pre .0) (start r .args .sums .now) (r .row-sizes .ensures) (start r .pre .1) 3 refl (f .field2 .ensures)
+    tens-fit (start r .pre .0) (start r .args .sums .now) (r .row-sizes .ensures) (start r .pre .1) _ refl (f .field2 .ensures)
 
 dot-requires : tie.Need-dot-requires
 dot-requires c κs =

@@ -36,7 +36,7 @@ stated-row-requires c κs =
     let k = c .before .before in
     let s = start k in
     let long = row-long (k .loop .i) (len k) (k .loop .out) (omega (arith, fits (c .before), k .loop .inv .1 .long)) in
-    (s .pre .0, s .pre .1, c .before .loop-test .taken, long ∙ k .before .row-length .ensures)
+    (s .pre .0, s .pre .1, omega arith, long ∙ k .before .row-length .ensures)
 
 loop-again : tie.Need-loop-again Inv-loop μ-loop
 loop-again c =
