@@ -25,22 +25,22 @@ right-leaf n a b e i l = ap (seedAt (a ++ b)) (sym split) ∙ ap (λ (x : Node).
     split = omega arith
 
 module _ (hash : List ℕ → ℕ → List ℕ) (hash-sized : (m : List ℕ) (n : ℕ) → Sized n (hash m n)) (salt : List ℕ) (e : ℕ) where
-  length-left : (v : ℕ) (seed : List ℕ) → length (left hash salt e v seed) ≡ 16
+  pub length-left : (v : ℕ) (seed : List ℕ) → length (left hash salt e v seed) ≡ 16
   unfolding children
   length-left v seed = rw (length-take, hash-sized _ 32 .size)
 
-  length-right : (v : ℕ) (seed : List ℕ) → length (right hash salt e v seed) ≡ 16
+  pub length-right : (v : ℕ) (seed : List ℕ) → length (right hash salt e v seed) ≡ 16
   unfolding children
   length-right v seed = rw (length-take, length-drop, hash-sized _ 32 .size)
 
-  length-leaves : (d v : ℕ) (seed : List ℕ) → length (leaves hash salt e d v seed) ≡ 2 ^ d
+  pub length-leaves : (d v : ℕ) (seed : List ℕ) → length (leaves hash salt e d v seed) ≡ 2 ^ d
   unfolding leaves
   length-leaves zero v seed = refl
   length-leaves (suc d) v seed =
       length-append (leaves hash salt e d (2 * v + 1) (left hash salt e v seed)) _
       ∙ omega (arith, length-leaves d (2 * v + 1) (left hash salt e v seed), length-leaves d (2 * v + 2) (right hash salt e v seed), pow-succ' 2 d)
 
-  length-shownLeaves : (d v : ℕ) (seeds : List ℕ) (h : ℕ) → length (shownLeaves hash salt e d v seeds h) ≡ 2 ^ d
+  pub length-shownLeaves : (d v : ℕ) (seeds : List ℕ) (h : ℕ) → length (shownLeaves hash salt e d v seeds h) ≡ 2 ^ d
   unfolding shownLeaves
   length-shownLeaves zero v seeds h = refl
   length-shownLeaves (suc d) v seeds h = go (decLt h (2 ^ d)) (length-shownLeaves d)

@@ -130,28 +130,28 @@ pub fn sibling_seeds(
     ensures { λ _. ⌜ now (out .exit) ≡ siblingSeeds shake128 (now (salt .entry)) e depth node (now (seed .entry)) hidden ⌝ }
 {
     if depth > 0 {
-        let pair = children(salt, e, node, seed);
+        let seeds = children(salt, e, node, seed);
         let end = out.len();
         let half = 1 << (depth - 1);
         if hidden < half {
-            slices::copy(&mut out[0..16], &pair[16..32]);
+            slices::copy(&mut out[0..16], &seeds[16..32]);
             sibling_seeds(
                 depth - 1,
                 salt,
                 e,
                 2 * node + 1,
-                &pair[0..16],
+                &seeds[0..16],
                 hidden,
                 &mut out[16..end],
             );
         } else {
-            slices::copy(&mut out[0..16], &pair[0..16]);
+            slices::copy(&mut out[0..16], &seeds[0..16]);
             sibling_seeds(
                 depth - 1,
                 salt,
                 e,
                 2 * node + 2,
-                &pair[16..32],
+                &seeds[16..32],
                 hidden - half,
                 &mut out[16..end],
             );

@@ -1,0 +1,2 @@
+-- Laws of the seeds of the leaves, for callers.
+pub mod Rows
