@@ -1,241 +1,18 @@
 // One execution's parties: each draws its tape and works out its shares of the output and of c, a and b.
 use banquet::Shape;
 ghost use mathlib.Core.Path.{_≡_};
-ghost use Prim.Native.Nat.{_+_, _*_, _^_, _<_, _≤_};
-ghost use mathlib.Core.List.{_++_};
-ghost use lib.ListN.{length, getD};
-ghost use Rattle.slices.specs.Lists.{tab, rows, row};
+ghost use Prim.Native.Nat.{_*_, _^_, _<_, _≤_};
+ghost use lib.ListN.{length};
+ghost use Rattle.slices.specs.Lists.{rows, row};
 ghost use Rattle.slices.specs.Layout.{total};
-ghost use Rattle.slices.specs.Numbers.{numbers};
-ghost use Rattle.poly.specs.Index.{at};
 ghost use Rattle.banquet.specs.Shape.{tapeSizes, productPoints, firstChallengeLength};
 ghost use Rattle.banquet.specs.Sets.{aesScheme};
 ghost use Rattle.banquet.specs.Hash.{tape as tapeOf};
-ghost use Rattle.banquet.specs.Execution.{challenge, inverseShares, inputShares, outputShare};
+ghost use Rattle.banquet.specs.Execution.{challenge};
 ghost use Rattle.sets.specs.Valid.{Valid};
 ghost use Rattle.sets.specs.Bounds.{rowSizes};
-ghost use Rattle.forms.specs.Point.{tabledRow, valueS, valueT};
-ghost use Rattle.forms.specs.Party.{committed, own as ownShare, ownProducts, workedC, workedA, workedB, workedRow, shareRow};
-ghost use Rattle.execution.specs.Given.{Lengths};
-
-// A party's own share: "Party 0 alone adds offsets".
-fn own(i: usize, share: &[u8], offset: &[u8], out: &mut [u8])
-    requires { ⌜ (length (now share) ≡ length (now out)) × (length (now offset) ≡ length (now out)) ⌝ }
-    ensures { λ _. ⌜ now (out .exit) ≡ ownShare i (now (share .entry)) (now (offset .entry)) ⌝ }
-{
-    slices::copy(out, share);
-    if i == 0 {
-        slices::xor_into(out, offset);
-    }
-}
-
-// Party i's share of the number 1.
-fn one(i: usize) -> u8
-    ensures { λ r. ⌜ r ≡ at i 0 1 0 ⌝ }
-{
-    if i == 0 { 1 } else { 0 }
-}
-
-// The output's share, and the shares of the inverses and of the S-boxes' inputs.
-fn walk(
-    shape: Shape,
-    i: usize,
-    front: &[u8],
-    key_offset: &[u8],
-    inverse_offsets: &[u8],
-    tape: &[u8],
-    inverses: &mut [u8],
-    inputs: &mut [u8],
-) -> [u8; 16]
-    requires { ⌜ Valid shape × (length (now front) ≡ 16) × (length (now key_offset) ≡ 16) × (length (now inverse_offsets) ≡ 200)
-        × (length (now tape) ≡ total (tapeSizes shape)) × (length (now inverses) ≡ 200) × (length (now inputs) ≡ 200) ⌝ }
-    ensures { λ r. ⌜ r
-        ≡ outputShare (aesScheme shape) (committed (now (front .entry)) (now (key_offset .entry)) (now (inverse_offsets .entry))) i (now (tape .entry)) ⌝ }
-    ensures { λ _. ⌜ now (inverses .exit)
-        ≡ inverseShares (aesScheme shape) (committed (now (front .entry)) (now (key_offset .entry)) (now (inverse_offsets .entry))) i (now (tape .entry)) ⌝ }
-    ensures { λ _. ⌜ now (inputs .exit)
-        ≡ inputShares (aesScheme shape) (committed (now (front .entry)) (now (key_offset .entry)) (now (inverse_offsets .entry))) i (now (tape .entry)) ⌝ }
-{
-    let sizes = sets::tape_sizes(shape);
-    let mut key = [0u8; 16];
-    own(i, fields::field(&sizes, 0, tape), key_offset, &mut key);
-    own(i, fields::field(&sizes, 1, tape), inverse_offsets, inverses);
-    shares::aes_circuit(one(i), &key, front, inverses, inputs)
-}
-
-// P's shares at the points 20 to 40.
-fn products(
-    shape: Shape,
-    i: usize,
-    product_offsets: &[u8],
-    tape: &[u8],
-    scratch: &mut [u8],
-    out: &mut [u64],
-)
-    requires { ⌜ Valid shape × (length (now product_offsets) ≡ productPoints shape * shape .wide) × (length (now tape) ≡ total (tapeSizes shape))
-        × (length (now scratch) ≡ productPoints shape * shape .wide) × (length (now out) ≡ 21) ⌝ }
-    ensures { λ _. ⌜ now (out .exit) ≡ ownProducts shape (now (product_offsets .entry)) i (now (tape .entry)) ⌝ }
-{
-    let sizes = sets::tape_sizes(shape);
-    own(i, fields::field(&sizes, 3, tape), product_offsets, scratch);
-    elements::load(shape.wide, scratch, out);
-}
-
-// The share of c. `given` is what the public points 0 to 19 add to party 0's.
-fn opened_c(
-    shape: Shape,
-    i: usize,
-    product_offsets: &[u8],
-    tape: &[u8],
-    far: &[u64],
-    given: u64,
-) -> u64
-    requires { ⌜ Valid shape × (length (now product_offsets) ≡ productPoints shape * shape .wide) × (length (now tape) ≡ total (tapeSizes shape))
-        × (length (now far) ≡ 21) ⌝ }
-    ensures { λ r. ⌜ r ≡ workedC shape (now (product_offsets .entry)) (now (far .entry)) given i (now (tape .entry)) ⌝ }
-{
-    let bits = (8 * shape.wide) as u32;
-    let mut bytes = [0u8; 126];
-    let mut values = [0u64; 21];
-    let end = product_offsets.len();
-    products(
-        shape,
-        i,
-        product_offsets,
-        tape,
-        &mut bytes[0..end],
-        &mut values,
-    );
-    let c = dots::dot(bits, shape.low, far, &values);
-    if i == 0 {
-        return c ^ given;
-    }
-    c
-}
-
-// The shares of a: for each j from the bytes of j, times r_j, and the extra point.
-fn opened_a(
-    shape: Shape,
-    first: &[u64],
-    tables: &[u64],
-    last: u64,
-    inputs: &[u8],
-    extra: &[u64],
-    out: &mut [u8],
-)
-    requires { ⌜ Valid shape × (length (now first) ≡ 10) × (length (now tables) ≡ 640) × (length (now inputs) ≡ 200)
-        × (length (now extra) ≡ 20) × (length (now out) ≡ 10 * shape .wide) ⌝ }
-    ensures { λ _. ⌜ now (out .exit)
-        ≡ numbers (shape .wide) 10 (λ j. valueS shape (getD (now (first .entry)) j 0) (tabledRow shape (now (inputs .entry)) (now (tables .entry)) j)
-        (getD (now (extra .entry)) (2 * j) 0) last) ⌝ }
-{
-    let mut rows = [0u64; 10];
-    opened::rows(shape, inputs, tables, &mut rows);
-    let mut values = [0u64; 10];
-    opened::values_s(shape, first, &rows, extra, last, &mut values);
-    elements::store(shape.wide, &values, out);
-}
-
-// The shares of b: for each j from the bytes of j and the extra point.
-fn opened_b(shape: Shape, tables: &[u64], last: u64, inverses: &[u8], extra: &[u64], out: &mut [u8])
-    requires { ⌜ Valid shape × (length (now tables) ≡ 640) × (length (now inverses) ≡ 200) × (length (now extra) ≡ 20)
-        × (length (now out) ≡ 10 * shape .wide) ⌝ }
-    ensures { λ _. ⌜ now (out .exit)
-        ≡ numbers (shape .wide) 10 (λ j. valueT shape (tabledRow shape (now (inverses .entry)) (now (tables .entry)) j)
-        (getD (now (extra .entry)) (2 * j + 1) 0) last) ⌝ }
-{
-    let mut rows = [0u64; 10];
-    opened::rows(shape, inverses, tables, &mut rows);
-    let mut values = [0u64; 10];
-    opened::values_t(shape, &rows, extra, last, &mut values);
-    elements::store(shape.wide, &values, out);
-}
-
-// The shares of a and then those of b.
-fn opened_row(
-    shape: Shape,
-    first: &[u64],
-    tables: &[u64],
-    last: u64,
-    inputs: &[u8],
-    inverses: &[u8],
-    tape: &[u8],
-    out: &mut [u8],
-)
-    requires { ⌜ Valid shape × (length (now first) ≡ 10) × (length (now tables) ≡ 640) × (length (now inputs) ≡ 200)
-        × (length (now inverses) ≡ 200) × (length (now tape) ≡ total (tapeSizes shape)) × (length (now out) ≡ 20 * shape .wide) ⌝ }
-    ensures { λ _. ⌜ now (out .exit)
-        ≡ numbers (shape .wide) (shape .m1) (workedA shape (now (first .entry)) (now (tables .entry)) last (now (tape .entry)) (now (inputs .entry)))
-        ++ numbers (shape .wide) (shape .m1) (workedB shape (now (first .entry)) (now (tables .entry)) last (now (tape .entry))
-        (now (inverses .entry))) ⌝ }
-{
-    let sizes = sets::tape_sizes(shape);
-    let mut extra = [0u64; 20];
-    elements::load(shape.wide, fields::field(&sizes, 2, tape), &mut extra);
-    let half = 10 * shape.wide;
-    let whole = out.len();
-    opened_a(
-        shape,
-        first,
-        tables,
-        last,
-        inputs,
-        &extra,
-        &mut out[0..half],
-    );
-    opened_b(shape, tables, last, inverses, &extra, &mut out[half..whole]);
-}
-
-// All of a party's shares: output, c, a, b.
-fn party_row(
-    shape: Shape,
-    i: usize,
-    front: &[u8],
-    key_offset: &[u8],
-    inverse_offsets: &[u8],
-    product_offsets: &[u8],
-    first: &[u64],
-    far: &[u64],
-    given: u64,
-    tables: &[u64],
-    last: u64,
-    tape: &[u8],
-    out: &mut [u8],
-)
-    requires { ⌜ Lengths shape (now front) (now key_offset) (now inverse_offsets) (now product_offsets) (now first) (now far) (now tables)
-        × (length (now tape) ≡ total (tapeSizes shape)) × (length (now out) ≡ total (rowSizes shape)) ⌝ }
-    ensures { λ _. ⌜ now (out .exit)
-        ≡ workedRow shape (committed (now (front .entry)) (now (key_offset .entry)) (now (inverse_offsets .entry)))
-        (now (product_offsets .entry)) (now (first .entry)) (now (far .entry)) given (now (tables .entry)) last i (now (tape .entry)) ⌝ }
-{
-    let mut inverses = [0u8; 200];
-    let mut inputs = [0u8; 200];
-    let output = walk(
-        shape,
-        i,
-        front,
-        key_offset,
-        inverse_offsets,
-        tape,
-        &mut inverses,
-        &mut inputs,
-    );
-    slices::copy(&mut out[0..16], &output);
-    let c = opened_c(shape, i, product_offsets, tape, far, given);
-    numbers::store(out, 16, shape.wide, c);
-    let at = 16 + shape.wide;
-    let end = out.len();
-    opened_row(
-        shape,
-        first,
-        tables,
-        last,
-        &inputs,
-        &inverses,
-        tape,
-        &mut out[at..end],
-    );
-}
+ghost use Rattle.forms.specs.Party.{committed, workedRow, shareRow};
+ghost use Rattle.party_shares.specs.Given.{Lengths};
 
 // The same from the party's seed.
 fn seed_row(
@@ -245,9 +22,9 @@ fn seed_row(
     i: usize,
     seed: &[u8],
     front: &[u8],
-    key_offset: &[u8],
-    inverse_offsets: &[u8],
-    product_offsets: &[u8],
+    key: &[u8],
+    inverse: &[u8],
+    product: &[u8],
     first: &[u64],
     far: &[u64],
     given: u64,
@@ -256,22 +33,22 @@ fn seed_row(
     tape: &mut [u8],
     out: &mut [u8],
 )
-    requires { ⌜ Lengths shape (now front) (now key_offset) (now inverse_offsets) (now product_offsets) (now first) (now far) (now tables)
+    requires { ⌜ Lengths shape (now front) (now key) (now inverse) (now product) (now first) (now far) (now tables)
         × (length (now salt) ≡ 32) × (i < 256) × (length (now seed) ≡ 16) × (length (now tape) ≡ total (tapeSizes shape))
         × (length (now out) ≡ total (rowSizes shape)) ⌝ }
     ensures { λ _. ⌜ now (out .exit)
-        ≡ workedRow shape (committed (now (front .entry)) (now (key_offset .entry)) (now (inverse_offsets .entry)))
-        (now (product_offsets .entry)) (now (first .entry)) (now (far .entry)) given (now (tables .entry)) last i
+        ≡ workedRow shape (committed (now (front .entry)) (now (key .entry)) (now (inverse .entry)))
+        (now (product .entry)) (now (first .entry)) (now (far .entry)) given (now (tables .entry)) last i
         (tapeOf (aesScheme shape) (now (salt .entry)) e i (now (seed .entry))) ⌝ }
 {
     party::hash(4, salt, e, i as u8, seed, tape);
-    party_row(
+    party_shares::party_row(
         shape,
         i,
         front,
-        key_offset,
-        inverse_offsets,
-        product_offsets,
+        key,
+        inverse,
+        product,
         first,
         far,
         given,
@@ -289,9 +66,9 @@ fn seed_rows(
     e: u8,
     seeds: &[u8],
     front: &[u8],
-    key_offset: &[u8],
-    inverse_offsets: &[u8],
-    product_offsets: &[u8],
+    key: &[u8],
+    inverse: &[u8],
+    product: &[u8],
     first: &[u64],
     far: &[u64],
     given: u64,
@@ -299,12 +76,12 @@ fn seed_rows(
     last: u64,
     out: &mut [u8],
 )
-    requires { ⌜ Lengths shape (now front) (now key_offset) (now inverse_offsets) (now product_offsets) (now first) (now far) (now tables)
+    requires { ⌜ Lengths shape (now front) (now key) (now inverse) (now product) (now first) (now far) (now tables)
         × (length (now salt) ≡ 32) × (shape .parties * 16 ≤ length (now seeds))
         × (length (now out) ≡ shape .parties * total (rowSizes shape)) ⌝ }
     ensures { λ _. ⌜ now (out .exit)
-        ≡ rows (λ i. workedRow shape (committed (now (front .entry)) (now (key_offset .entry)) (now (inverse_offsets .entry)))
-        (now (product_offsets .entry)) (now (first .entry)) (now (far .entry)) given (now (tables .entry)) last i
+        ≡ rows (λ i. workedRow shape (committed (now (front .entry)) (now (key .entry)) (now (inverse .entry)))
+        (now (product .entry)) (now (first .entry)) (now (far .entry)) given (now (tables .entry)) last i
         (tapeOf (aesScheme shape) (now (salt .entry)) e i (row 16 i (now (seeds .entry))))) (shape .parties) ⌝ }
 {
     let sizes = sets::tape_sizes(shape);
@@ -324,9 +101,9 @@ fn seed_rows(
             i,
             &seeds[s..t],
             front,
-            key_offset,
-            inverse_offsets,
-            product_offsets,
+            key,
+            inverse,
+            product,
             first,
             far,
             given,
@@ -345,20 +122,20 @@ pub fn share_rows(
     e: u8,
     seeds: &[u8],
     front: &[u8],
-    key_offset: &[u8],
-    inverse_offsets: &[u8],
+    key: &[u8],
+    inverse: &[u8],
     first: &[u8],
-    product_offsets: &[u8],
+    product: &[u8],
     second: u64,
     out: &mut [u8],
 )
     requires { ⌜ Valid shape × (length (now salt) ≡ 32) × (shape .parties * 16 ≤ length (now seeds)) × (length (now front) ≡ 16)
-        × (length (now key_offset) ≡ 16) × (length (now inverse_offsets) ≡ 200) × (length (now first) ≡ firstChallengeLength shape)
-        × (length (now product_offsets) ≡ productPoints shape * shape .wide) × (second < 2 ^ (8 * shape .wide))
+        × (length (now key) ≡ 16) × (length (now inverse) ≡ 200) × (length (now first) ≡ firstChallengeLength shape)
+        × (length (now product) ≡ productPoints shape * shape .wide) × (second < 2 ^ (8 * shape .wide))
         × (length (now out) ≡ shape .parties * total (rowSizes shape)) ⌝ }
     ensures { λ _. ⌜ now (out .exit)
-        ≡ rows (λ i. shareRow (aesScheme shape) (committed (now (front .entry)) (now (key_offset .entry)) (now (inverse_offsets .entry)))
-        (challenge (aesScheme shape) (now (first .entry)) (now (product_offsets .entry)) second) i
+        ≡ rows (λ i. shareRow (aesScheme shape) (committed (now (front .entry)) (now (key .entry)) (now (inverse .entry)))
+        (challenge (aesScheme shape) (now (first .entry)) (now (product .entry)) second) i
         (tapeOf (aesScheme shape) (now (salt .entry)) e i (row 16 i (now (seeds .entry))))) (shape .parties) ⌝ }
 {
     let bits = (8 * shape.wide) as u32;
@@ -380,9 +157,9 @@ pub fn share_rows(
         e,
         seeds,
         front,
-        key_offset,
-        inverse_offsets,
-        product_offsets,
+        key,
+        inverse,
+        product,
         &draws,
         &far[20..41],
         given,

@@ -1,5 +1,5 @@
--- The lengths of what the parties of an execution have in common: the plaintext, the offsets, the first challenge, Lagrange's values for the points 20
--- to 40 and the tables.
+-- The lengths of what the parties of an execution have in common: the plaintext, the offsets, the first challenge, Lagrange's values for the points
+-- 20 to 40 and the tables.
 use mathlib.Core.Path.{_≡_}
 use mathlib.Core.List.{List}
 use Prim.Native.Nat.{ℕ, _*_}

@@ -1,0 +1,3 @@
+-- Laws for proofs of functions.
+pub mod Laws
+pub mod Right

@@ -1,0 +1,185 @@
+-- A party's shares from what the steps leave: parts of its tape, its own shares, its row. Assumes nothing.
+use mathlib.Core.Path.{_≡_, refl, sym, ap, ap₂, _∙_}
+use mathlib.Core.Logic.{_≢_}
+use mathlib.Core.List.{List, _++_, append-nil, append-assoc}
+use Prim.Native.Nat.{ℕ, zero, suc, _+_, _-_, _*_, _^_, _<_, _≤_}
+use native.Mathlib.Omega.{arith}
+use lib.Bits.{bitXor}
+use lib.ListN.{length, getD, take, drop, length-take, length-drop, drop-of-length-le}
+use lib.Seq.{length-take-le}
+use borrow.Rule.Slice.PartMut.{putMid}
+use Rattle.slices.specs.Lists.{tab, zipXor, put}
+use Rattle.slices.specs.Tab.{getD-tab, rows-cong}
+use Rattle.slices.specs.Numbers.{bytesOf, numberAt, numbers}
+use Rattle.slices.specs.Layout.{field, total, length-field}
+use Rattle.slices.proofs.Put.{put-mid, length-put, put-pair, wrote-none, wrote-more, wrote-all}
+use Rattle.poly.specs.Index.{at, at-same, at-other, at-cases}
+use Rattle.lagrange.specs.Values.{dotProduct}
+use Rattle.circuit.specs.Circuit.{share, party, inputShares as inputsOf, outputShare as outputOf}
+use Rattle.banquet.specs.declared.Shape.{Shape}
+use Rattle.banquet.specs.Shape.{tapeSizes}
+use Rattle.banquet.specs.Sets.{aesScheme}
+use Rattle.banquet.specs.Execution.{Committed, tapePart, keyShare, inverseShares, inputShares, outputShare}
+use Rattle.sets.specs.Valid.{Valid}
+use Rattle.sets.specs.Bounds.{tape-most}
+use Rattle.forms.specs.Point.{tabledRow, valueS, valueT}
+use Rattle.forms.specs.Party.{committed, own, ownProducts, workedC, workedA, workedB, workedRow}
+
+-- ---- a party's own shares
+
+module _ {i : ℕ} {share : List ℕ} (offset : List ℕ) {y : List ℕ} (copied : y ≡ share) where
+  pub own-first : {z : List ℕ} → i ≡ 0 → z ≡ zipXor y offset → z ≡ own i share offset
+  own-first e h = h ∙ ap (λ s. zipXor s offset) copied ∙ sym (at-same i 0 (zipXor share offset) share e)
+
+  pub own-other : i ≢ 0 → y ≡ own i share offset
+  own-other n = copied ∙ sym (at-other i 0 (zipXor share offset) share n)
+
+pub one-small : (i : ℕ) {r : ℕ} → r ≡ at i 0 1 0 → r < 2
+one-small i e = rw e (at-cases (λ r. r < 2) i 0 1 0 (λ _. omega arith) (λ _. omega arith))
+
+party-is : (i : ℕ) (k y : List ℕ) → share (at i 0 1 0) k y ≡ party i k y
+party-is zero k y = ap (λ o. share o k y) (at-same 0 0 1 0 refl)
+party-is (suc i) k y = ap (λ o. share o k y) (at-other (suc i) 0 1 0 (λ e. omega arith))
+
+-- ---- a front that is lent as `&mut d[0..a]`
+
+pub front-long : {a n : ℕ} (d : List ℕ) → a ≡ n → a ≤ length d → length (take (a - 0) d) ≡ n
+front-long {a} d e h = let z : a - 0 ≡ a = omega arith in rw z (length-take-le a d h ∙ e)
+
+-- the rest, lent as `&mut d[a..e]` with e the length
+pub rest-long : (d l : List ℕ) (a : ℕ) {n : ℕ} → length l ≡ length d → length d ≡ a + n → length (take (length d - a) (drop a l)) ≡ n
+rest-long d l a e h = simp (length-take, length-drop) (omega arith)
+
+pub put-both : (a k : ℕ) (d : List ℕ) {y y′ z z′ : List ℕ} → y ≡ y′ → length y′ ≡ a → z ≡ z′ → length d ≤ a + k
+    → putMid a k (putMid 0 (a - 0) d y) z ≡ y′ ++ z′
+put-both a k d e h f room = let z : a - 0 ≡ a = omega arith in rw z (put-pair a k d e h f room)
+
+module _ {S : Shape} (v : Valid S) where
+  open Shape S using (wide, low, m1)
+
+  -- ---- the parts of a tape
+
+  pub sizes-fit : {k : ℕ} {sizes : List ℕ} (t : List ℕ) → sizes ≡ tapeSizes S → k < 4 → length t ≡ total (tapeSizes S)
+      → (k < length sizes) × (total sizes ≤ length t) × (total sizes < 2 ^ 63)
+  sizes-fit t e h l = rw e (h, omega arith, omega (arith, tape-most v))
+
+  pub part-is : (k : ℕ) (t : List ℕ) {sizes r : List ℕ} → sizes ≡ tapeSizes S → r ≡ field sizes k t → r ≡ tapePart (aesScheme S) k t
+  unfolding tapePart
+  part-is k t e h = h ∙ ap (λ s. field s k t) e
+
+  pub part-long : (k : ℕ) (t : List ℕ) {r : List ℕ} → length t ≡ total (tapeSizes S) → r ≡ tapePart (aesScheme S) k t
+      → length r ≡ getD (tapeSizes S) k 0
+  unfolding tapePart
+  part-long k t l h = ap length h ∙ length-field (tapeSizes S) k t l
+
+  -- ---- numbers that are loaded and stored
+
+  pub load-fits : (k : ℕ) {n m : ℕ} → n ≡ k → k * wide ≤ m → (wide ≤ 8) × (n * wide ≤ m)
+  load-fits k e h = (omega (arith, v .wide-most), rw e h)
+
+  pub store-fits : {n m : ℕ} → m ≡ 10 * wide → n ≡ 10 → (wide ≤ 8) × (m ≡ n * wide)
+  store-fits h e = (omega (arith, v .wide-most), rw e h)
+
+  -- ten numbers, of which each is made of the number of a row and of others
+  pub stored : (f : ℕ → ℕ → ℕ) (g : ℕ → ℕ) {rows values out : List ℕ} → rows ≡ tab g 10 → values ≡ tab (λ j. f j (getD rows j 0)) 10
+      → out ≡ numbers wide (length values) (λ k. getD values k 0) → out ≡ numbers wide m1 (λ j. f j (g j))
+  stored f g {rows} {values} e h k =
+      k ∙ ap (λ s. numbers wide (length s) (λ k. getD s k 0)) h
+      ∙ rows-cong 10
+      (λ j l. ap (bytesOf wide)
+      (getD-tab (λ j. f j (getD rows j 0)) 10 j 0 l ∙ ap (λ s. f j (getD s j 0)) e ∙ ap (f j) (getD-tab g 10 j 0 l)))
+      ∙ ap (λ n. numbers wide n (λ j. f j (g j))) (sym (v .ten))
+
+  -- ---- the output and the circuit
+
+  module _ (front key inverse t : List ℕ) (i : ℕ) {one : ℕ} {p q mine inv : List ℕ} (o : one ≡ at i 0 1 0)
+      (e : p ≡ tapePart (aesScheme S) 0 t) (f : mine ≡ own i p key) (e′ : q ≡ tapePart (aesScheme S) 1 t) (f′ : inv ≡ own i q inverse) where
+    abbrev x : Committed
+    x = committed front key inverse
+
+    inverses-are : inv ≡ inverseShares (aesScheme S) x i t
+    inverses-are = f′ ∙ ap (λ s. own i s inverse) e′
+
+    whole : share one mine inv ≡ party i (keyShare (aesScheme S) x i t) (inverseShares (aesScheme S) x i t)
+    whole =
+        ap (λ n. share n mine inv) o ∙ ap₂ (share (at i 0 1 0)) (f ∙ ap (λ s. own i s key) e) inverses-are
+        ∙ party-is i (keyShare (aesScheme S) x i t) (inverseShares (aesScheme S) x i t)
+
+    pub walked : {r inputs : List ℕ} → r ≡ outputOf (share one mine inv) → inputs ≡ inputsOf front (share one mine inv)
+        → (r ≡ outputShare (aesScheme S) x i t) × ((inv ≡ inverseShares (aesScheme S) x i t) × (inputs ≡ inputShares (aesScheme S) x i t))
+    unfolding outputShare inputShares
+    walked h k = (h ∙ ap outputOf whole, (inverses-are, k ∙ ap (inputsOf front) whole))
+
+  -- ---- the share of c
+
+  pub products-are : (product t : List ℕ) (i : ℕ) {p scratch out : List ℕ} {n : ℕ} → p ≡ tapePart (aesScheme S) 3 t → scratch ≡ own i p product
+      → n ≡ 21 → out ≡ tab (λ k. numberAt wide k scratch) n → out ≡ ownProducts S product i t
+  products-are product t i e f l h =
+      h ∙ ap₂ (λ s n. tab (λ k. numberAt wide k s) n) (f ∙ ap (λ s. own i s product) e) l
+
+  module _ (product far : List ℕ) (given i : ℕ) (t : List ℕ) {values : List ℕ} {r : ℕ} (p : values ≡ ownProducts S product i t)
+      (h : r ≡ dotProduct (8 * wide) low values far) where
+    dot : r ≡ dotProduct (8 * wide) low (ownProducts S product i t) far
+    dot = h ∙ ap (λ s. dotProduct (8 * wide) low s far) p
+
+    pub c-first : i ≡ 0 → bitXor r given ≡ workedC S product far given i t
+    unfolding workedC
+    c-first e = ap (λ z. bitXor z given) dot ∙ sym (at-same i 0 _ _ e)
+
+    pub c-other : i ≢ 0 → r ≡ workedC S product far given i t
+    unfolding workedC
+    c-other n = dot ∙ sym (at-other i 0 _ _ n)
+
+  -- ---- the shares of a and b
+
+  module _ (first tables : List ℕ) (last : ℕ) (t : List ℕ) {p extra : List ℕ} (e : p ≡ tapePart (aesScheme S) 2 t)
+      (h : extra ≡ tab (λ k. numberAt wide k p) 20) where
+    extra-at : (k : ℕ) → k < 20 → getD extra k 0 ≡ numberAt wide k (tapePart (aesScheme S) 2 t)
+    extra-at k l = ap (λ s. getD s k 0) h ∙ getD-tab (λ k. numberAt wide k p) 20 k 0 l ∙ ap (numberAt wide k) e
+
+    pub a-worked : (inputs : List ℕ)
+        → numbers wide m1 (λ j. valueS S (getD first j 0) (tabledRow S inputs tables j) (getD extra (2 * j) 0) last)
+        ≡ numbers wide m1 (workedA S first tables last t inputs)
+    unfolding workedA
+    a-worked inputs =
+        rows-cong m1
+        (λ j l. ap (λ s. bytesOf wide (valueS S (getD first j 0) (tabledRow S inputs tables j) s last)) (extra-at (2 * j) (omega (arith, v .ten))))
+
+    pub b-worked : (inverses : List ℕ)
+        → numbers wide m1 (λ j. valueT S (tabledRow S inverses tables j) (getD extra (2 * j + 1) 0) last)
+        ≡ numbers wide m1 (workedB S first tables last t inverses)
+    unfolding workedB
+    b-worked inverses =
+        rows-cong m1
+        (λ j l. ap (λ s. bytesOf wide (valueT S (tabledRow S inverses tables j) s last)) (extra-at (2 * j + 1) (omega (arith, v .ten))))
+
+  -- ---- all of them
+
+  module _ (front key inverse product first far : List ℕ) (given : ℕ) (tables : List ℕ) (last i : ℕ) (t : List ℕ) where
+    abbrev x′ : Committed
+    x′ = committed front key inverse
+
+    pub row-is : {y inverses inputs z : List ℕ} {c : ℕ} → y ≡ outputShare (aesScheme S) x′ i t → inverses ≡ inverseShares (aesScheme S) x′ i t
+        → inputs ≡ inputShares (aesScheme S) x′ i t → c ≡ workedC S product far given i t
+        → z ≡ numbers wide m1 (workedA S first tables last t inputs) ++ numbers wide m1 (workedB S first tables last t inverses)
+        → y ++ (bytesOf wide c ++ z) ≡ workedRow S x′ product first far given tables last i t
+    unfolding workedRow
+    row-is {y} {inverses} {inputs} {z} {c} e f g h k =
+        ap₂ _++_ e
+        (ap₂ (λ c z. bytesOf wide c ++ z) h
+        (k ∙ ap₂ (λ u v. numbers wide m1 (workedA S first tables last t u) ++ numbers wide m1 (workedB S first tables last t v)) g f))
+
+-- ---- a row: 16 elements y, then w, then all the rest, each written in its place
+
+pub put-row : (w : ℕ) (d y b z : List ℕ) {k : ℕ} {s : List ℕ} → length d ≡ 16 + w + k → length y ≡ 16 → length b ≡ w
+    → s ≡ put (putMid 0 16 d y) 16 b → length s ≡ length d → length z ≡ k
+    → putMid (16 + w) (length s - (16 + w)) s z ≡ y ++ (b ++ z)
+put-row w d y b z {k} {s} l h m p same n =
+    let first : putMid 0 16 d y ≡ put d 0 y = put-mid 0 16 d y y refl (sym h) in
+    let one = wrote-more y (wrote-none d) h first (ap length first ∙ length-put d 0 y (omega arith)) in
+    let two = wrote-more b one m p (same ∙ sym (one .long)) in
+    let third : putMid (16 + w) (length s - (16 + w)) s z ≡ put s (16 + w) z =
+    put-mid (16 + w) (length s - (16 + w)) s z z refl (omega arith) in
+    let three = wrote-more z two n third (ap length third ∙ length-put s (16 + w) z (omega arith)) in
+    let none : length d ≤ 16 + w + k = omega arith in
+    wrote-all three ∙ ap (((y ++ b) ++ z) ++_) (drop-of-length-le d none) ∙ append-nil ((y ++ b) ++ z) ∙ append-assoc y b z

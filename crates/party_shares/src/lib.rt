@@ -1,0 +1,228 @@
+// A party's shares: from its tape those of the output, of c, a and b.
+use banquet::Shape;
+ghost use mathlib.Core.Path.{_≡_};
+ghost use Prim.Native.Nat.{_+_, _*_, _<_};
+ghost use mathlib.Core.List.{_++_};
+ghost use lib.ListN.{length, getD};
+ghost use Rattle.slices.specs.Layout.{total};
+ghost use Rattle.slices.specs.Numbers.{numbers};
+ghost use Rattle.poly.specs.Index.{at};
+ghost use Rattle.banquet.specs.Shape.{tapeSizes, productPoints};
+ghost use Rattle.banquet.specs.Sets.{aesScheme};
+ghost use Rattle.banquet.specs.Execution.{tapePart, inverseShares, inputShares, outputShare};
+ghost use Rattle.sets.specs.Valid.{Valid};
+ghost use Rattle.sets.specs.Bounds.{rowSizes};
+ghost use Rattle.forms.specs.Point.{tabledRow, valueS, valueT};
+ghost use Rattle.forms.specs.Party.{committed, own as ownShare, ownProducts, workedC, workedA, workedB, workedRow};
+ghost use Rattle.party_shares.specs.Given.{Lengths};
+
+// A party's own share: "Party 0 alone adds offsets".
+fn own(i: usize, share: &[u8], offset: &[u8], out: &mut [u8])
+    requires { ⌜ (length (now share) ≡ length (now out)) × (length (now offset) ≡ length (now out)) ⌝ }
+    ensures { λ _. ⌜ now (out .exit) ≡ ownShare i (now (share .entry)) (now (offset .entry)) ⌝ }
+{
+    slices::copy(out, share);
+    if i == 0 {
+        slices::xor_into(out, offset);
+    }
+}
+
+// Party i's share of the number 1.
+fn one(i: usize) -> u8
+    ensures { λ r. ⌜ r ≡ at i 0 1 0 ⌝ }
+{
+    if i == 0 { 1 } else { 0 }
+}
+
+// Part k of a tape: the share of the key, the shares of the inverses, the extra points, the shares of products.
+fn tape_part<'a>(shape: Shape, k: usize, tape: &'a [u8]) -> &'a [u8]
+    requires { ⌜ Valid shape × (k < 4) × (length (now tape) ≡ total (tapeSizes shape)) ⌝ }
+    ensures { λ r. ⌜ now r ≡ tapePart (aesScheme shape) k (now (tape .entry)) ⌝ }
+{
+    let sizes = sets::tape_sizes(shape);
+    fields::field(&sizes, k, tape)
+}
+
+// The output's share, and the shares of the inverses and of the S-boxes' inputs.
+fn walk(
+    shape: Shape,
+    i: usize,
+    front: &[u8],
+    key: &[u8],
+    inverse: &[u8],
+    tape: &[u8],
+    inverses: &mut [u8],
+    inputs: &mut [u8],
+) -> [u8; 16]
+    requires { ⌜ Valid shape × (length (now front) ≡ 16) × (length (now key) ≡ 16) × (length (now inverse) ≡ 200)
+        × (length (now tape) ≡ total (tapeSizes shape)) × (length (now inverses) ≡ 200) × (length (now inputs) ≡ 200) ⌝ }
+    ensures { λ r. ⌜ r
+        ≡ outputShare (aesScheme shape) (committed (now (front .entry)) (now (key .entry)) (now (inverse .entry))) i (now (tape .entry)) ⌝ }
+    ensures { λ _. ⌜ now (inverses .exit)
+        ≡ inverseShares (aesScheme shape) (committed (now (front .entry)) (now (key .entry)) (now (inverse .entry))) i (now (tape .entry)) ⌝ }
+    ensures { λ _. ⌜ now (inputs .exit)
+        ≡ inputShares (aesScheme shape) (committed (now (front .entry)) (now (key .entry)) (now (inverse .entry))) i (now (tape .entry)) ⌝ }
+{
+    let mut share = [0u8; 16];
+    own(i, tape_part(shape, 0, tape), key, &mut share);
+    own(i, tape_part(shape, 1, tape), inverse, inverses);
+    shares::aes_circuit(one(i), &share, front, inverses, inputs)
+}
+
+// P's shares at the points 20 to 40.
+fn products(
+    shape: Shape,
+    i: usize,
+    product: &[u8],
+    tape: &[u8],
+    scratch: &mut [u8],
+    out: &mut [u64],
+)
+    requires { ⌜ Valid shape × (length (now product) ≡ productPoints shape * shape .wide) × (length (now tape) ≡ total (tapeSizes shape))
+        × (length (now scratch) ≡ productPoints shape * shape .wide) × (length (now out) ≡ 21) ⌝ }
+    ensures { λ _. ⌜ now (out .exit) ≡ ownProducts shape (now (product .entry)) i (now (tape .entry)) ⌝ }
+{
+    own(i, tape_part(shape, 3, tape), product, scratch);
+    elements::load(shape.wide, scratch, out);
+}
+
+// The share of c. `given` is what the public points 0 to 19 add to party 0's.
+fn opened_c(shape: Shape, i: usize, product: &[u8], tape: &[u8], far: &[u64], given: u64) -> u64
+    requires { ⌜ Valid shape × (length (now product) ≡ productPoints shape * shape .wide) × (length (now tape) ≡ total (tapeSizes shape))
+        × (length (now far) ≡ 21) ⌝ }
+    ensures { λ r. ⌜ r ≡ workedC shape (now (product .entry)) (now (far .entry)) given i (now (tape .entry)) ⌝ }
+{
+    let bits = (8 * shape.wide) as u32;
+    let mut bytes = [0u8; 126];
+    let mut values = [0u64; 21];
+    let end = product.len();
+    products(shape, i, product, tape, &mut bytes[0..end], &mut values);
+    let c = dots::dot(bits, shape.low, far, &values);
+    if i == 0 {
+        return c ^ given;
+    }
+    c
+}
+
+// The shares of a: for each j from the bytes of j, times r_j, and the extra point.
+fn opened_a(
+    shape: Shape,
+    first: &[u64],
+    tables: &[u64],
+    last: u64,
+    inputs: &[u8],
+    extra: &[u64],
+    out: &mut [u8],
+)
+    requires { ⌜ Valid shape × (length (now first) ≡ 10) × (length (now tables) ≡ 640) × (length (now inputs) ≡ 200)
+        × (length (now extra) ≡ 20) × (length (now out) ≡ 10 * shape .wide) ⌝ }
+    ensures { λ _. ⌜ now (out .exit)
+        ≡ numbers (shape .wide) (shape .m1) (λ j. valueS shape (getD (now (first .entry)) j 0)
+        (tabledRow shape (now (inputs .entry)) (now (tables .entry)) j) (getD (now (extra .entry)) (2 * j) 0) last) ⌝ }
+{
+    let mut rows = [0u64; 10];
+    opened::rows(shape, inputs, tables, &mut rows);
+    let mut values = [0u64; 10];
+    opened::values_s(shape, first, &rows, extra, last, &mut values);
+    elements::store(shape.wide, &values, out);
+}
+
+// The shares of b: for each j from the bytes of j and the extra point.
+fn opened_b(shape: Shape, tables: &[u64], last: u64, inverses: &[u8], extra: &[u64], out: &mut [u8])
+    requires { ⌜ Valid shape × (length (now tables) ≡ 640) × (length (now inverses) ≡ 200) × (length (now extra) ≡ 20)
+        × (length (now out) ≡ 10 * shape .wide) ⌝ }
+    ensures { λ _. ⌜ now (out .exit)
+        ≡ numbers (shape .wide) (shape .m1) (λ j. valueT shape (tabledRow shape (now (inverses .entry)) (now (tables .entry)) j)
+        (getD (now (extra .entry)) (2 * j + 1) 0) last) ⌝ }
+{
+    let mut rows = [0u64; 10];
+    opened::rows(shape, inverses, tables, &mut rows);
+    let mut values = [0u64; 10];
+    opened::values_t(shape, &rows, extra, last, &mut values);
+    elements::store(shape.wide, &values, out);
+}
+
+// The shares of a and then those of b.
+fn opened_row(
+    shape: Shape,
+    first: &[u64],
+    tables: &[u64],
+    last: u64,
+    inputs: &[u8],
+    inverses: &[u8],
+    tape: &[u8],
+    out: &mut [u8],
+)
+    requires { ⌜ Valid shape × (length (now first) ≡ 10) × (length (now tables) ≡ 640) × (length (now inputs) ≡ 200)
+        × (length (now inverses) ≡ 200) × (length (now tape) ≡ total (tapeSizes shape)) × (length (now out) ≡ 20 * shape .wide) ⌝ }
+    ensures { λ _. ⌜ now (out .exit)
+        ≡ numbers (shape .wide) (shape .m1) (workedA shape (now (first .entry)) (now (tables .entry)) last (now (tape .entry)) (now (inputs .entry)))
+        ++ numbers (shape .wide) (shape .m1) (workedB shape (now (first .entry)) (now (tables .entry)) last (now (tape .entry))
+        (now (inverses .entry))) ⌝ }
+{
+    let mut extra = [0u64; 20];
+    elements::load(shape.wide, tape_part(shape, 2, tape), &mut extra);
+    let half = 10 * shape.wide;
+    let whole = out.len();
+    opened_a(
+        shape,
+        first,
+        tables,
+        last,
+        inputs,
+        &extra,
+        &mut out[0..half],
+    );
+    opened_b(shape, tables, last, inverses, &extra, &mut out[half..whole]);
+}
+
+// All of a party's shares: output, c, a, b.
+pub fn party_row(
+    shape: Shape,
+    i: usize,
+    front: &[u8],
+    key: &[u8],
+    inverse: &[u8],
+    product: &[u8],
+    first: &[u64],
+    far: &[u64],
+    given: u64,
+    tables: &[u64],
+    last: u64,
+    tape: &[u8],
+    out: &mut [u8],
+)
+    requires { ⌜ Lengths shape (now front) (now key) (now inverse) (now product) (now first) (now far) (now tables)
+        × (length (now tape) ≡ total (tapeSizes shape)) × (length (now out) ≡ total (rowSizes shape)) ⌝ }
+    ensures { λ _. ⌜ now (out .exit)
+        ≡ workedRow shape (committed (now (front .entry)) (now (key .entry)) (now (inverse .entry)))
+        (now (product .entry)) (now (first .entry)) (now (far .entry)) given (now (tables .entry)) last i (now (tape .entry)) ⌝ }
+{
+    let mut inverses = [0u8; 200];
+    let mut inputs = [0u8; 200];
+    let output = walk(
+        shape,
+        i,
+        front,
+        key,
+        inverse,
+        tape,
+        &mut inverses,
+        &mut inputs,
+    );
+    slices::copy(&mut out[0..16], &output);
+    let c = opened_c(shape, i, product, tape, far, given);
+    numbers::store(out, 16, shape.wide, c);
+    let at = 16 + shape.wide;
+    let end = out.len();
+    opened_row(
+        shape,
+        first,
+        tables,
+        last,
+        &inputs,
+        &inverses,
+        tape,
+        &mut out[at..end],
+    );
+}
