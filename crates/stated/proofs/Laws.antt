@@ -7,6 +7,7 @@ use native.Mathlib.Omega.{arith}
 use lib.Dec.{eqb}
 use lib.ListN.{length, getD, take, drop, length-drop, drop-of-length-le}
 use lib.Seq.{length-take-le}
+use borrow.Author.Tests.{not-true, not-false}
 use borrow.Rule.Slice.PartMut.{putMid}
 use Rattle.slices.specs.Lists.{tab, row, part, sumXor, same}
 use Rattle.slices.specs.Tab.{getD-tab}
@@ -107,15 +108,6 @@ unfolding rowProductHolds field
 product-right {S} s {sizes} v e c f g d = ap₂ eqb c (d ∙ dot-sum (field sizes 2 s) (field sizes 3 s) v f g ∙ rw e refl)
 
 -- ---- the end of the check
-
--- what `if !test` says
-not-true : (b : Bool) → not b ≡ true → b ≡ false
-not-true true h = sym h
-not-true false h = refl
-
-not-false : (b : Bool) → not b ≡ false → b ≡ true
-not-false true h = refl
-not-false false h = sym h
 
 module _ (S : Shape) (rows ciphertext : List ℕ) (e : ℕ) {sums : List ℕ} {len : ℕ} {test : Bool} (size : len ≡ total (rowSizes S))
     (is : sums ≡ sumXor (S .parties) (λ i. row len i rows)) (tested : test ≡ same (take 16 sums) ciphertext) where
