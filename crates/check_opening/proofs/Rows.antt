@@ -3,16 +3,20 @@ use mathlib.Core.Path.{_≡_, refl, sym, ap, ap₂, _∙_}
 use mathlib.Core.Bool.{_||_}
 use mathlib.Core.List.{List, _++_}
 use Prim.Native.Nat.{ℕ, _+_, _*_, _/_, _-_, _^_, _<_, _≤_}
+use native.Mathlib.Nat.{sub-zero}
 use native.Mathlib.Omega.{arith}
 use lib.Dec.{eqb}
 use lib.ListN.{length, getD, take, drop, length-append, length-take, length-drop}
 use lib.Seq.{take-all, take-at, drop-at}
+use borrow.Rule.Slice.PartMut.{putMid}
 use Rattle.slices.specs.Lists.{rows, row, same, sumXor}
 use Rattle.slices.specs.Tab.{length-rows, row-of-rows, rows-cong}
 use Rattle.slices.specs.Bytes.{Sized}
 use Rattle.slices.specs.Sums.{sumXor-cong}
 use Rattle.slices.specs.Numbers.{number-lt, length-bytesOf, length-numbers}
 use Rattle.slices.specs.Layout.{total, field, length-field, sized-field}
+use Rattle.slices.proofs.Put.{put-pair}
+use Rattle.compare.specs.Lowest.{lowest}
 use Rattle.banquet.specs.declared.Shape.{Shape}
 use Rattle.banquet.specs.declared.Answer.{Answer}
 use Rattle.banquet.specs.declared.Answer.the-variants.{ShareDiffers, ProductDiffers, Accepted}
@@ -26,11 +30,38 @@ use Rattle.theorems.specs.Keys.{sized-front}
 use Rattle.theorems.specs.Shares.{Fits, hashed-tape, sized-outputShare}
 use Rattle.sets.specs.Valid.{Valid}
 use Rattle.sets.specs.Laws.{laws}
-use Rattle.sets.specs.Bounds.{rowSizes, all-sboxes}
+use Rattle.sets.specs.Bounds.{rowSizes, rows-most}
 use Rattle.forms.specs.Party.{shareRow, committed}
 use Rattle.forms.specs.Stated.{statedRow, row-same}
 use Rattle.forms.specs.Sums.{sumsAnswer, length-stated, sums-outputs, sums-product}
-use Rattle.check_opening.specs.Steps.{Given, madeRow, rowsAnswer, each-cong}
+use Rattle.check_opening.specs.Steps.{Given, madeRow, rowsAnswer, each-found, each-none, each-cong}
+
+-- ---- two halves of one slice
+
+module _ (w : List ℕ) (n : ℕ) (long : length w ≡ 2 * n) where
+  -- lent and written one after the other
+  pub second-lent : (l : List ℕ) → length l ≡ length w → length (take (length w - length w / 2) (drop (length w / 2) l)) ≡ n
+  second-lent l h = simp (length-take, length-drop) (omega arith)
+
+  pub halves-put : {y y′ z z′ : List ℕ} → y ≡ y′ → length y′ ≡ n → z ≡ z′
+      → putMid (length w / 2) (length w - length w / 2) (putMid 0 (length w / 2 - 0) w y) z ≡ y′ ++ z′
+  halves-put e h f = rw sub-zero (put-pair (length w / 2) (length w - length w / 2) w e (omega arith) f (omega arith))
+
+-- read
+halves-read : (n : ℕ) {w a b : List ℕ} → w ≡ a ++ b → length a ≡ n → length b ≡ n
+    → (take (length w - length w / 2) (drop (length w / 2) w) ≡ b) × (take (length w / 2 - 0) w ≡ a)
+halves-read n {w} {a} {b} is h k =
+    let long : length w ≡ 2 * n = rw (is, length-append a b) (omega arith) in
+    let half : length w / 2 ≡ n = omega arith in
+    let rest : length w - length w / 2 ≡ n = omega arith in
+    let second : drop n w ≡ b = rw is (drop-at a b n h) in (
+      rw (rest, half, second) (take-all n b (omega arith)),
+      rw (sub-zero, half, is) (take-at a b n h),
+    )
+
+-- there is room for all rows, twice
+pub rows-fit : {S : Shape} {len : ℕ} → Valid S → len ≡ total (rowSizes S) → S .parties * len ≤ 18176
+rows-fit v e = rw e (rows-most v)
 
 -- ---- the fields of a transcript
 
@@ -96,7 +127,7 @@ module _ {S : Shape} {publicKey t : List ℕ} {e second : ℕ} (g : Given S publ
     pub stated-length : length (rows (statedRow S t) parties) ≡ parties * total (rowSizes S)
     stated-length = length-rows (total (rowSizes S)) (statedRow S t) parties (λ j m. length-stated (g .valid) (g .stated) j m)
 
-    pub made-length : length (rows made parties) ≡ parties * total (rowSizes S)
+    made-length : length (rows made parties) ≡ parties * total (rowSizes S)
     made-length = length-rows (total (rowSizes S)) made parties (λ j m. made-size j)
 
     made-row : (i : ℕ) → i < parties → row (total (rowSizes S)) i (rows made parties) ≡ made i
@@ -119,8 +150,40 @@ module _ {S : Shape} {publicKey t : List ℕ} {e second : ℕ} (g : Given S publ
         rw (sumXor-cong parties stated-row, ciphertext-is, sums-outputs (g .valid) (g .stated), sums-product (g .valid) (g .stated) publicKey, g .e-is)
         refl
 
-    pub rows-checked : (hidden : ℕ)
+    rows-checked : (hidden : ℕ)
         → rowsAnswer S (take 16 (drop 16 publicKey)) e hidden (rows made parties) (rows (statedRow S t) parties)
         ≡ checkShares (aesScheme S) publicKey t hidden (λ i. row 16 i seeds)
     unfolding rowsAnswer checkShares
     rows-checked hidden = each-cong ShareDiffers parties (λ i l. ap (eqb i hidden ||_) (row-tested i l)) sums-checked
+
+    -- the same as the code has it: the stated rows and those worked out in the halves of w
+    module _ (w : List ℕ) (is : w ≡ rows (statedRow S t) parties ++ rows made parties) where
+      read : (take (length w - length w / 2) (drop (length w / 2) w) ≡ rows made parties) × (take (length w / 2 - 0) w ≡ rows (statedRow S t) parties)
+      read = halves-read (parties * total (rowSizes S)) is stated-length made-length
+
+      pub read-lengths : (length (take (length w - length w / 2) (drop (length w / 2) w)) ≡ parties * total (rowSizes S))
+          × (length (take (length w / 2 - 0) w) ≡ parties * total (rowSizes S))
+      read-lengths = (ap length (read .0) ∙ made-length, ap length (read .1) ∙ stated-length)
+
+      pub halves-checked : (hidden : ℕ) {r : Answer}
+          → r ≡ rowsAnswer S (take 16 (drop 16 publicKey)) e hidden (take (length w - length w / 2) (drop (length w / 2) w)) (take (length w / 2 - 0) w)
+          → r ≡ checkShares (aesScheme S) publicKey t hidden (λ i. row 16 i seeds)
+      halves-checked hidden h =
+          h ∙ ap₂ (rowsAnswer S (take 16 (drop 16 publicKey)) e hidden) (read .0) (read .1) ∙ rows-checked hidden
+
+-- ---- the rows compared
+
+module _ (S : Shape) (ciphertext : List ℕ) (e hidden : ℕ) (made stated : List ℕ) {len found : ℕ} (size : len ≡ total (rowSizes S))
+    (f : found ≡ lowest (S .parties) 0 (λ i. eqb i hidden || same (row len i made) (row len i stated))) where
+  lowest-is : found ≡ lowest (S .parties) 0 (λ i. eqb i hidden || same (row (total (rowSizes S)) i made) (row (total (rowSizes S)) i stated))
+  lowest-is = f ∙ ap (λ n. lowest (S .parties) 0 (λ i. eqb i hidden || same (row n i made) (row n i stated))) size
+
+  pub row-differs : found < S .parties → ShareDiffers found ≡ rowsAnswer S ciphertext e hidden made stated
+  unfolding rowsAnswer
+  row-differs l = sym (each-found _ ShareDiffers _ (S .parties) lowest-is l)
+
+  pub rows-agree : {r : Answer} → S .parties ≤ found
+      → r ≡ sumsAnswer S ciphertext e (sumXor (S .parties) (λ i. row (total (rowSizes S)) i stated))
+      → r ≡ rowsAnswer S ciphertext e hidden made stated
+  unfolding rowsAnswer
+  rows-agree l w = w ∙ sym (each-none _ ShareDiffers _ (S .parties) lowest-is l)
