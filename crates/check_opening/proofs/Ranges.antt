@@ -3,7 +3,7 @@ use mathlib.Core.Path.{_≡_, refl, sym, ap, _∙_}
 use mathlib.Core.Bool.{Bool, true, false}
 use mathlib.Core.Logic.{_≢_}
 use mathlib.Core.List.{List, _++_}
-use Prim.Native.Nat.{ℕ, zero, suc, _+_, _-_, _*_, _<_, _≤_}
+use Prim.Native.Nat.{ℕ, zero, suc, _+_, _-_, _*_, _^_, _<_, _≤_}
 use native.Mathlib.Nat.{sub-zero}
 use native.Mathlib.Omega.{arith}
 use lib.ListN.{length, getD, take, drop, replicate, length-take, length-drop}
@@ -42,6 +42,7 @@ use Rattle.banquet.specs.Opening.{
 }
 use Rattle.banquet.specs.Calls.{verifyOpeningAnswer}
 use Rattle.sets.specs.Valid.{Valid}
+use Rattle.sets.specs.Bounds.{transcript-most}
 use Rattle.check_opening.specs.Steps.{Scratch}
 
 -- ---- the work slice
@@ -105,6 +106,10 @@ unfolding workAfter
 work-clears w h = rw (h .is)
 
 -- ---- the parts of a transcript that are numbers
+
+-- all sizes can be added
+pub sizes-fit : {S : Shape} {sizes : List ℕ} → Valid S → sizes ≡ transcriptSizes S → (12 ≤ length sizes) × (total sizes < 2 ^ 63)
+sizes-fit v e = rw e (omega arith, omega (arith, transcript-most v))
 
 pub execution-is : (S : Shape) (t : List ℕ) → 32 < length t → getD t 32 0 ≡ executionOf (aesScheme S) t
 unfolding field number
@@ -178,22 +183,30 @@ module _ {S : Shape} (v : Valid S) (publicKey o work : List ℕ) where
     pub file-refused : length o ≢ end + 1 + 16 * depth → (FileLength ≡ whole) × (work ≡ workAfter whole work)
     unfolding verifyOpeningAnswer require workAfter
     file-refused h =
-        case (rw (eq-eqb (length publicKey) (publicKeyLength S) (key ∙ sym key-length),
-        ne-eqb (length o) (openingLength S) (λ x. h (x ∙ sym file-length)))) refl
+        case (rw (
+          eq-eqb (length publicKey) (publicKeyLength S) (key ∙ sym key-length),
+          ne-eqb (length o) (openingLength S) (λ x. h (x ∙ sym file-length)),
+        )) refl
 
     module _ (file : length o ≡ end + 1 + 16 * depth) where
       pub work-refused : length work < workLength → (WorkLength ≡ whole) × (work ≡ workAfter whole work)
       unfolding verifyOpeningAnswer require workAfter
       work-refused h =
-          case (rw (eq-eqb (length publicKey) (publicKeyLength S) (key ∙ sym key-length), eq-eqb (length o) (openingLength S) (file ∙ file-length),
-          lt-leb workLength (length work) h)) refl
+          case (rw (
+            eq-eqb (length publicKey) (publicKeyLength S) (key ∙ sym key-length),
+            eq-eqb (length o) (openingLength S) (file ∙ file-length),
+            lt-leb workLength (length work) h,
+          )) refl
 
       lengths-passed : workLength ≤ length work
           → whole ≡ checkOpening (aesScheme S) publicKey (transcriptOf (aesScheme S) o) (hiddenOf (aesScheme S) o) (siblingsOf (aesScheme S) o)
       unfolding verifyOpeningAnswer require
       lengths-passed h =
-          rw (eq-eqb (length publicKey) (publicKeyLength S) (key ∙ sym key-length), eq-eqb (length o) (openingLength S) (file ∙ file-length),
-          le-leb workLength (length work) h)
+          rw (
+            eq-eqb (length publicKey) (publicKeyLength S) (key ∙ sym key-length),
+            eq-eqb (length o) (openingLength S) (file ∙ file-length),
+            le-leb workLength (length work) h,
+          )
 
       -- the parts as the code has them
       transcript-is : take (end - 0) o ≡ transcriptOf (aesScheme S) o

@@ -305,16 +305,7 @@ fn check_ranges(
     if second < (shape.m2 as u64) {
         return Answer::SecondChallengeRange;
     }
-    let answer = check_parties(
-        shape,
-        public,
-        transcript,
-        e,
-        second,
-        hidden,
-        siblings,
-        work,
-    );
+    let answer = check_parties(shape, public, transcript, e, second, hidden, siblings, work);
     slices::zero(&mut work[0..65536]);
     answer
 }

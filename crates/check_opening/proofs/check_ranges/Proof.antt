@@ -83,8 +83,14 @@ returns-4 c =
     (u .if2 .left) (n .second-of .ensures) (p .before .before .if3 .left) (s .pre .4) (p .check-parties .ensures .0)
     (p .check-parties .ensures .1) (z .zero .ensures)
 
+same-length : tie.Need-same-length
+same-length c =
+    let z = c .before .before in
+    let p = z .before .before .before .before .check-parties in
+    same-len-mid 0 65536 (p .last .1 .1 .1 .1 .1 .1 .1 .0) (z .zero .last .0) (z .zero .kept .0) ∙ p .kept .1 .1 .1 .1 .1 .1 .1 .0
+
 pub check-ranges-spec : {M : Type 1} → statement M
 check-ranges-spec =
     tie.close
-    (tie.spec (λ c. search needs) (λ c. ?) (λ c. search needs) returns (λ c. search needs) returns-2 (λ c κs. search needs) (λ c. search needs) returns-3
-    check-parties-requires (λ c. search needs) (λ c. search needs) (λ c. search needs) (λ c κs. search needs) (λ c. ?) returns-4)
+    (tie.spec (λ c. search needs) (λ c. omega (arith, c .shared-slice-known4 .given 32)) returns returns-2 (λ c κs. search needs) returns-3
+    check-parties-requires (λ c. search needs) (λ c. search needs) (λ c. search needs) (λ c κs. search needs) same-length returns-4)

@@ -26,9 +26,13 @@ room d =
 first-commitment-requires : tie.Need-first-commitment-requires
 first-commitment-requires c κs =
     let d = c .before .before .before .before .before in
-    let s = start d in
-    (s .pre .0 .valid, s .pre .0 .stated .size, s .pre .0 .e-is, room d,
-    front-long (s .args .shape .parties * 32) (s .args .work .now) (omega (arith, s .pre .0 .valid .few, s .pre .3)))
+    let s = start d in (
+      s .pre .0 .valid,
+      s .pre .0 .stated .size,
+      s .pre .0 .e-is,
+      room d,
+      front-long (s .args .shape .parties * 32) (s .args .work .now) (omega (arith, s .pre .0 .valid .few, s .pre .3)),
+    )
 
 -- ---- the commitments
 
@@ -56,9 +60,11 @@ returns : tie.Need-returns
 returns c =
     let f = c .before .before .before .before in
     let d = shown f in
-    let s = start d in
-    (commitment-refused (s .pre .0) (s .args .siblings .now) (s .args .hidden) (s .pre .1) (d .shown-seeds .ensures) (f .first-commitment .ensures)
-    (c .if1 .taken), scratch1 f)
+    let s = start d in (
+      commitment-refused (s .pre .0) (s .args .siblings .now) (s .args .hidden) (s .pre .1) (d .shown-seeds .ensures) (f .first-commitment .ensures)
+          (c .if1 .taken),
+      scratch1 f,
+    )
 
 -- ---- the rows
 
@@ -79,10 +85,12 @@ module _ (r : tie.After-row-length) where
 check-rows-requires : tie.Need-check-rows-requires
 check-rows-requires c κs =
     let r = c .before .before .before in
-    let s = begun r in
-    (s .pre .0, room (shown (committed r)),
-    front-long (2 * (s .args .shape .parties * r .row-length .result)) (work1 (committed r)) (fits r)
-    ∙ ap (λ k. 2 * (s .args .shape .parties * k)) (r .row-length .ensures))
+    let s = begun r in (
+      s .pre .0,
+      room (shown (committed r)),
+      front-long (2 * (s .args .shape .parties * r .row-length .result)) (work1 (committed r)) (fits r)
+          ∙ ap (λ k. 2 * (s .args .shape .parties * k)) (r .row-length .ensures),
+    )
 
 returns-2 : tie.Need-returns-2
 returns-2 c =
@@ -90,12 +98,13 @@ returns-2 c =
     let r = k .before .before .before .before in
     let f = committed r in
     let d = shown f in
-    let s = start d in
-    (commitments-passed (s .pre .0) (s .args .siblings .now) (s .args .hidden) (s .pre .1) (d .shown-seeds .ensures) (f .first-commitment .ensures)
-    (r .before .if1 .left) (k .check-rows .ensures),
-    scratch-then (scratch1 f)
-    (scratch-front (2 * (n f * r .row-length .result)) (work1 f) (k .check-rows .last .1 .1 .1 .1 .1 .1 .1 .0) (omega (arith, most r))
-    (omega (arith, scratch1 f .long, s .pre .3)) (k .check-rows .kept .1 .1 .1 .1 .1 .1 .1 .0)))
+    let s = start d in (
+      commitments-passed (s .pre .0) (s .args .siblings .now) (s .args .hidden) (s .pre .1) (d .shown-seeds .ensures) (f .first-commitment .ensures)
+          (r .before .if1 .left) (k .check-rows .ensures),
+      scratch-then (scratch1 f)
+          (scratch-front (2 * (n f * r .row-length .result)) (work1 f) (k .check-rows .last .1 .1 .1 .1 .1 .1 .1 .0) (omega (arith, most r))
+          (omega (arith, scratch1 f .long, s .pre .3)) (k .check-rows .kept .1 .1 .1 .1 .1 .1 .1 .0)),
+    )
 
 pub check-seeds-spec : {M : Type 1} → statement M
 check-seeds-spec =

@@ -14,9 +14,12 @@ made-rows-requires c κs =
     let r = c .before .before .before in
     let s = r .before .before .before .before .before .before in
     let w = s .args .rows .now in
-    let n = s .args .shape .parties * total (rowSizes (s .args .shape)) in
-    (s .pre .0, s .pre .1, second-lent w n (s .pre .2) (putMid 0 (length w / 2 - 0) w (r .rows .last .1 .1 .0))
-    (same-len-mid 0 (length w / 2 - 0) w (r .rows .last .1 .1 .0) (r .rows .kept .1 .1 .0)))
+    let n = s .args .shape .parties * total (rowSizes (s .args .shape)) in (
+      s .pre .0,
+      s .pre .1,
+      second-lent w n (s .pre .2) (putMid 0 (length w / 2 - 0) w (r .rows .last .1 .1 .0))
+          (same-len-mid 0 (length w / 2 - 0) w (r .rows .last .1 .1 .0) (r .rows .kept .1 .1 .0)),
+    )
 
 returns : tie.Need-returns
 returns c =

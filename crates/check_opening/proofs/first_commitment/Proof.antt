@@ -27,9 +27,12 @@ hash-rows-requires : tie.Need-hash-rows-requires
 hash-rows-requires c κs =
     let f = c .before in
     let z = f .before .before in
-    let s = start z in
-    (field-size (s .args .shape) (s .args .transcript .now) 0 (z .transcript-sizes .ensures) (s .pre .1) (f .field .ensures),
-    omega (arith, s .pre .0 .few), s .pre .3, s .pre .4)
+    let s = start z in (
+      field-size (s .args .shape) (s .args .transcript .now) 0 (z .transcript-sizes .ensures) (s .pre .1) (f .field .ensures),
+      omega (arith, s .pre .0 .few),
+      s .pre .3,
+      s .pre .4,
+    )
 
 field-requires-2 : tie.Need-field-requires-2
 field-requires-2 c κs =
@@ -41,9 +44,10 @@ first-difference-requires : tie.Need-first-difference-requires
 first-difference-requires c κs =
     let h = hashed (c .before) in
     let z = sized h in
-    let s = start z in
-    (h .hash-rows .kept .1 .1 .1 .1 .1 .1 .0 ∙ s .pre .4,
-    field-size (s .args .shape) (s .args .transcript .now) 2 (z .transcript-sizes .ensures) (s .pre .1) (c .field2 .ensures))
+    let s = start z in (
+      h .hash-rows .kept .1 .1 .1 .1 .1 .1 .0 ∙ s .pre .4,
+      field-size (s .args .shape) (s .args .transcript .now) 2 (z .transcript-sizes .ensures) (s .pre .1) (c .field2 .ensures),
+    )
 
 returns : tie.Need-returns
 returns c =

@@ -52,10 +52,18 @@ share-rows-requires c κs =
     let f2 = f3 .before .before in
     let f1 = f2 .before .before .before in
     let z = at1 (f1 .before) in
-    let s = start z in
-    (s .pre .0 .valid, size z 0 (f1 .field .ensures), s .pre .1, front-size (s .pre .0), size z 4 (f2 .field2 .ensures),
-    size z 5 (f3 .field3 .ensures) ∙ all-sboxes (s .pre .0 .valid), size z 6 (f4 .field4 .ensures), size z 7 (f5 .field5 .ensures),
-    second-fits (s .pre .0), s .pre .2)
+    let s = start z in (
+      s .pre .0 .valid,
+      size z 0 (f1 .field .ensures),
+      s .pre .1,
+      front-size (s .pre .0),
+      size z 4 (f2 .field2 .ensures),
+      size z 5 (f3 .field3 .ensures) ∙ all-sboxes (s .pre .0 .valid),
+      size z 6 (f4 .field4 .ensures),
+      size z 7 (f5 .field5 .ensures),
+      second-fits (s .pre .0),
+      s .pre .2,
+    )
 
 returns : tie.Need-returns
 returns c =

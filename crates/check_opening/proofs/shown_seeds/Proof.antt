@@ -24,9 +24,12 @@ expand-shown-requires : tie.Need-expand-shown-requires
 expand-shown-requires c κs =
     let f = c .before in
     let z = f .before .before in
-    let s = start z in
-    (field-size (s .args .shape) (s .args .transcript .now) 0 (z .transcript-sizes .ensures) (s .pre .1) (f .field .ensures), s .pre .2, s .pre .3,
-    omega (arith, leaves-most (s .pre .0)))
+    let s = start z in (
+      field-size (s .args .shape) (s .args .transcript .now) 0 (z .transcript-sizes .ensures) (s .pre .1) (f .field .ensures),
+      s .pre .2,
+      s .pre .3,
+      omega (arith, leaves-most (s .pre .0)),
+    )
 
 returns : tie.Need-returns
 returns c =

@@ -7,7 +7,7 @@ use borrow.Author.Needs.{needs}
 use Rattle.slices.specs.Layout.{total}
 use Rattle.banquet.specs.Shape.{transcriptSizes}
 use Rattle.sets.specs.Bounds.{transcript-most}
-use Rattle.check_opening.proofs.Ranges.{key-refused, file-refused, work-refused, parts-long, opening-checked}
+use Rattle.check_opening.proofs.Ranges.{sizes-fit, key-refused, file-refused, work-refused, parts-long, opening-checked}
 use Rattle.check_opening.proofs.verify_opening.Statement.{statement}
 use Rattle.check_opening.proofs.verify_opening.Tie as tie
 
@@ -32,7 +32,7 @@ module _ (o : tie.After-offset) where
   end-most = omega (arith, end-is, transcript-most (start .pre))
 
 offset-requires : tie.Need-offset-requires
-offset-requires c κs = ?
+offset-requires c κs = sizes-fit (c .before .before .before .before .before .before .pre) (c .before .transcript-sizes .ensures)
 
 returns-2 : tie.Need-returns-2
 returns-2 c =
@@ -73,6 +73,6 @@ verify-opening-spec =
     tie.close
     (tie.spec returns (λ c κs. search needs) (λ c. search needs) offset-requires (λ c. omega (arith, end-most c)) (λ c. search needs)
     (λ c. omega (arith, end-most (c .before))) returns-2 returns-3 (λ c. search needs)
-    (λ c. let o = c .before .before .before .before in c .shared-slice-known3 .given (o .offset .result)) (λ c. search needs)
+    (λ c. omega (arith, c .shared-slice-known3 .given (c .before .before .before .before .offset .result))) (λ c. search needs)
     (λ c. search needs) (λ c. search needs) (λ c. search needs) (λ c. search needs) (λ c. search needs) (λ c. search needs)
     check-ranges-requires (λ c. search needs) returns-4)
