@@ -1,26 +1,32 @@
 -- The steps of the check of an opening: what each is given and answers. Assumes nothing.
 use mathlib.Core.Path.{_≡_, refl, ap, ap₂, _∙_, sym}
-use mathlib.Core.Bool.{Bool, true, false}
+use mathlib.Core.Bool.{Bool, true, false, _||_}
 use mathlib.Core.List.{List}
 use Prim.Native.Nat.{ℕ, zero, suc, _+_, _*_, _<_, _≤_}
 use native.Mathlib.Omega.{arith}
+use lib.Dec.{eqb}
 use lib.ListN.{length, drop}
-use Rattle.slices.specs.Lists.{choose}
+use Rattle.slices.specs.Lists.{choose, row, same, sumXor}
+use Rattle.slices.specs.Bytes.{Sized}
 use Rattle.slices.specs.Layout.{total}
 use Rattle.compare.specs.Lowest.{lowest}
 use Rattle.banquet.specs.declared.Shape.{Shape}
 use Rattle.banquet.specs.declared.Answer.{Answer}
-use Rattle.banquet.specs.Shape.{workLength, transcriptSizes}
+use Rattle.banquet.specs.declared.Answer.the-variants.{ShareDiffers}
+use Rattle.banquet.specs.Shape.{workLength, publicKeyLength, transcriptSizes}
 use Rattle.banquet.specs.Sets.{aesScheme}
 use Rattle.banquet.specs.Answer.{require, each}
-use Rattle.banquet.specs.Opening.{executionOf, secondOf}
+use Rattle.banquet.specs.Opening.{executionOf, secondOf, committedOf, challengeOf, tapeUnder}
 use Rattle.sets.specs.Valid.{Valid}
+use Rattle.sets.specs.Bounds.{rowSizes}
+use Rattle.forms.specs.Party.{shareRow}
+use Rattle.forms.specs.Sums.{sumsAnswer}
 
 -- what all steps are given: the public key, the transcript, and of it the execution and the second challenge as numbers
 pub record Given (S : Shape) (publicKey transcript : List ℕ) (e second : ℕ) : Type 0 where
   pub valid : Valid S
-  pub key-size : length publicKey ≡ 32
-  pub transcript-size : length transcript ≡ total (transcriptSizes S)
+  pub key : Sized (publicKeyLength S) publicKey
+  pub stated : Sized (total (transcriptSizes S)) transcript
   pub e-is : e ≡ executionOf (aesScheme S) transcript
   pub second-is : second ≡ secondOf (aesScheme S) transcript
 
@@ -29,12 +35,24 @@ pub record Scratch (w w′ : List ℕ) : Type 0 where
   pub long : length w′ ≡ length w
   pub rest : drop workLength w′ ≡ drop workLength w
 
+-- party i's row, worked out from its seed
+unfoldable pub madeRow : Shape → List ℕ → List ℕ → List ℕ → ℕ → List ℕ
+madeRow S publicKey transcript seeds i =
+    shareRow (aesScheme S) (committedOf (aesScheme S) publicKey transcript) (challengeOf (aesScheme S) transcript) i
+    (tapeUnder (aesScheme S) transcript i (row 16 i seeds))
+
+-- numbers 14 and 15, for all rows worked out and all stated
+unfoldable pub rowsAnswer : Shape → List ℕ → ℕ → ℕ → List ℕ → List ℕ → Answer
+rowsAnswer S ciphertext e hidden made stated =
+    each (S .parties) 0 (λ i. eqb i hidden || same (row (total (rowSizes S)) i made) (row (total (rowSizes S)) i stated)) ShareDiffers
+    (sumsAnswer S ciphertext e (sumXor (S .parties) (λ i. row (total (rowSizes S)) i stated)))
+
 -- ---- a test of each number refuses at the lowest that fails
 
 module _ (test : ℕ → Bool) (refusal : ℕ → Answer) (rest : Answer) where
   each-from : (n i : ℕ) → ((lowest n i test < i + n) → each n i test refusal rest ≡ refusal (lowest n i test))
       × ((i + n ≤ lowest n i test) → each n i test refusal rest ≡ rest)
-  unfolding each lowest
+  unfolding each lowest require
   each-from zero i = (λ h. absurd (omega arith), λ h. refl)
   each-from (suc n) i = go (test i) (each-from n (suc i))
     where
@@ -52,3 +70,16 @@ module _ (test : ℕ → Bool) (refusal : ℕ → Answer) (rest : Answer) where
 
   pub each-none : (n : ℕ) {found : ℕ} → found ≡ lowest n 0 test → n ≤ found → each n 0 test refusal rest ≡ rest
   each-none n e l = each-from n 0 .1 (omega (arith, e))
+
+-- tests that agree on the n numbers, and the same rest
+each-same : (refusal : ℕ → Answer) (n i : ℕ) {f g : ℕ → Bool} {r r′ : Answer} → ((j : ℕ) → i ≤ j → j < i + n → f j ≡ g j) → r ≡ r′
+    → each n i f refusal r ≡ each n i g refusal r′
+unfolding each
+each-same refusal zero i h e = e
+each-same refusal (suc n) i h e =
+    ap₂ (λ (t : Bool) (r : Answer). require t (refusal i) r) (h i (omega arith) (omega arith))
+    (each-same refusal n (suc i) (λ j l m. h j (omega arith) (omega arith)) e)
+
+pub each-cong : (refusal : ℕ → Answer) (n : ℕ) {f g : ℕ → Bool} {r r′ : Answer} → ((j : ℕ) → j < n → f j ≡ g j) → r ≡ r′
+    → each n 0 f refusal r ≡ each n 0 g refusal r′
+each-cong refusal n h e = each-same refusal n 0 (λ j l m. h j (omega arith)) e

@@ -3,26 +3,114 @@ use banquet::Answer;
 use banquet::Shape;
 ghost use mathlib.Core.Path.{_≡_};
 ghost use mathlib.Core.Bool.{_||_};
+ghost use mathlib.Core.List.{_++_};
 ghost use Prim.Native.Nat.{_+_, _*_, _^_, _<_, _≤_};
 ghost use lib.Dec.{eqb};
 ghost use lib.ListN.{length};
-ghost use Rattle.slices.specs.Lists.{row, same};
+ghost use Rattle.slices.specs.Lists.{rows as rowsOf, row, same};
 ghost use Rattle.slices.specs.Layout.{total};
+ghost use Rattle.shake.specs.Shake128.{shake128};
 ghost use Rattle.compare.specs.Lowest.{lowest};
 ghost use Rattle.banquet.specs.Shape.{transcriptSizes};
 ghost use Rattle.banquet.specs.Sets.{aesScheme};
 ghost use Rattle.banquet.specs.Answer.{workAfter};
 ghost use Rattle.banquet.specs.Hash.{commitment};
-ghost use Rattle.banquet.specs.Opening.{saltOf, executionOf, commitmentOf, shownSeed, checkShares, checkParties, checkOpening};
+ghost use Rattle.banquet.specs.Tree.{nodeSeeds, shownLeaves};
+ghost use Rattle.banquet.specs.Opening.{saltOf, executionOf, secondOf, commitmentOf, shownSeed, checkShares, checkParties, checkOpening};
 ghost use Rattle.banquet.specs.Calls.{verifyOpening};
 ghost use Rattle.sets.specs.Valid.{Valid};
 ghost use Rattle.sets.specs.Bounds.{rowSizes};
-ghost use Rattle.check_opening.specs.Steps.{Given, Scratch};
+ghost use Rattle.forms.specs.Stated.{statedRow};
+ghost use Rattle.check_opening.specs.Steps.{Given, Scratch, madeRow, rowsAnswer};
 
-// Numbers 14 and 15: the stated rows, and then those worked out, in one scratch slice.
+// The rows of all parties as they are worked out from the seeds.
+fn made_rows(
+    shape: Shape,
+    public: &[u8],
+    transcript: &[u8],
+    e: u8,
+    second: u64,
+    seeds: &[u8],
+    out: &mut [u8],
+)
+    requires { ⌜ Given shape (now public) (now transcript) e second × (shape .parties * 16 ≤ length (now seeds))
+        × (length (now out) ≡ shape .parties * total (rowSizes shape)) ⌝ }
+    ensures { λ _. ⌜ now (out .exit)
+        ≡ rowsOf (madeRow shape (now (public .entry)) (now (transcript .entry)) (now (seeds .entry))) (shape .parties) ⌝ }
+{
+    let sizes = sets::transcript_sizes(shape);
+    execution::share_rows(
+        shape,
+        fields::field(&sizes, 0, transcript),
+        e,
+        seeds,
+        &public[0..16],
+        fields::field(&sizes, 4, transcript),
+        fields::field(&sizes, 5, transcript),
+        fields::field(&sizes, 6, transcript),
+        fields::field(&sizes, 7, transcript),
+        second,
+        out,
+    );
+}
+
+// The stated rows, and behind them those worked out.
+fn fill_rows(
+    shape: Shape,
+    public: &[u8],
+    transcript: &[u8],
+    e: u8,
+    second: u64,
+    seeds: &[u8],
+    rows: &mut [u8],
+)
+    requires { ⌜ Given shape (now public) (now transcript) e second × (shape .parties * 16 ≤ length (now seeds))
+        × (length (now rows) ≡ 2 * (shape .parties * total (rowSizes shape))) ⌝ }
+    ensures { λ _. ⌜ now (rows .exit)
+        ≡ rowsOf (statedRow shape (now (transcript .entry))) (shape .parties)
+        ++ rowsOf (madeRow shape (now (public .entry)) (now (transcript .entry)) (now (seeds .entry))) (shape .parties) ⌝ }
+{
+    let whole = rows.len();
+    let half = whole / 2;
+    stated::rows(shape, transcript, &mut rows[0..half]);
+    made_rows(
+        shape,
+        public,
+        transcript,
+        e,
+        second,
+        seeds,
+        &mut rows[half..whole],
+    );
+}
+
+// Numbers 14 and 15 for the rows worked out and those stated.
+fn compare_rows(
+    shape: Shape,
+    ciphertext: &[u8],
+    e: u8,
+    hidden: usize,
+    made: &[u8],
+    stated: &[u8],
+) -> Answer
+    requires { ⌜ Valid shape × (length (now made) ≡ shape .parties * total (rowSizes shape))
+        × (length (now stated) ≡ shape .parties * total (rowSizes shape)) ⌝ }
+    ensures { λ r. ⌜ r
+        ≡ rowsAnswer shape (now (ciphertext .entry)) e hidden (now (made .entry)) (now (stated .entry)) ⌝ }
+{
+    let len = sets::row_length(shape);
+    let found = compare::first_difference(shape.parties, len, hidden, made, stated);
+    if found < shape.parties {
+        return Answer::ShareDiffers(found as u8);
+    }
+    let mut sums = [0u8; 142];
+    stated::check_sums(shape, ciphertext, e, stated, &mut sums[0..len])
+}
+
+// Numbers 14 and 15, with scratch for the stated rows and those worked out.
 fn check_rows(
     shape: Shape,
-    public_key: &[u8],
+    public: &[u8],
     transcript: &[u8],
     e: u8,
     second: u64,
@@ -30,45 +118,20 @@ fn check_rows(
     seeds: &[u8],
     rows: &mut [u8],
 ) -> Answer
-    requires { ⌜ Given shape (now public_key) (now transcript) e second × (shape .parties * 16 ≤ length (now seeds))
+    requires { ⌜ Given shape (now public) (now transcript) e second × (shape .parties * 16 ≤ length (now seeds))
         × (length (now rows) ≡ 2 * (shape .parties * total (rowSizes shape))) ⌝ }
-    ensures { λ r. ⌜ r ≡ checkShares (aesScheme shape) (now (public_key .entry)) (now (transcript .entry)) hidden (λ i. row 16 i (now (seeds .entry))) ⌝ }
+    ensures { λ r. ⌜ r ≡ checkShares (aesScheme shape) (now (public .entry)) (now (transcript .entry)) hidden (λ i. row 16 i (now (seeds .entry))) ⌝ }
 {
-    let sizes = sets::transcript_sizes(shape);
-    let len = sets::row_length(shape);
+    fill_rows(shape, public, transcript, e, second, seeds, rows);
     let whole = rows.len();
     let half = whole / 2;
-    stated::rows(shape, transcript, &mut rows[0..half]);
-    execution::share_rows(
+    compare_rows(
         shape,
-        fields::field(&sizes, 0, transcript),
+        &public[16..32],
         e,
-        seeds,
-        &public_key[0..16],
-        fields::field(&sizes, 4, transcript),
-        fields::field(&sizes, 5, transcript),
-        fields::field(&sizes, 6, transcript),
-        fields::field(&sizes, 7, transcript),
-        second,
-        &mut rows[half..whole],
-    );
-    let found = compare::first_difference(
-        shape.parties,
-        len,
         hidden,
         &rows[half..whole],
         &rows[0..half],
-    );
-    if found < shape.parties {
-        return Answer::ShareDiffers(found as u8);
-    }
-    let mut sums = [0u8; 142];
-    stated::check_sums(
-        shape,
-        &public_key[16..32],
-        e,
-        &rows[0..half],
-        &mut sums[0..len],
     )
 }
 
@@ -107,24 +170,19 @@ fn first_commitment(
     )
 }
 
-// Numbers 13, 14 and 15, with scratch for the seeds.
-fn check_seeds(
+// The seeds that the sibling seeds expand to.
+fn shown_seeds(
     shape: Shape,
-    public_key: &[u8],
     transcript: &[u8],
     e: u8,
-    second: u64,
     hidden: usize,
     siblings: &[u8],
-    seeds: &mut [u8],
-    work: &mut [u8],
-) -> Answer
-    requires { ⌜ Given shape (now public_key) (now transcript) e second × (length (now siblings) ≡ shape .depth * 16)
-        × (length (now seeds) ≡ 16 * 2 ^ shape .depth) × (65536 ≤ length (now work)) ⌝ }
-    ensures { λ r. ⌜ r
-        ≡ checkParties (aesScheme shape) (now (public_key .entry)) (now (transcript .entry)) hidden
-        (shownSeed (aesScheme shape) (now (transcript .entry)) hidden (now (siblings .entry))) ⌝ }
-    ensures { λ _. ⌜ Scratch (now (work .entry)) (now (work .exit)) ⌝ }
+    out: &mut [u8],
+)
+    requires { ⌜ Valid shape × (length (now transcript) ≡ total (transcriptSizes shape)) × (length (now siblings) ≡ shape .depth * 16)
+        × (length (now out) ≡ 16 * 2 ^ shape .depth) ⌝ }
+    ensures { λ _. ⌜ now (out .exit)
+        ≡ nodeSeeds (shownLeaves shake128 (saltOf (aesScheme shape) (now (transcript .entry))) e (shape .depth) 0 (now (siblings .entry)) hidden) ⌝ }
 {
     let sizes = sets::transcript_sizes(shape);
     tree::expand_shown(
@@ -134,8 +192,30 @@ fn check_seeds(
         0,
         siblings,
         hidden,
-        seeds,
+        out,
     );
+}
+
+// Numbers 13, 14 and 15, with scratch for the seeds.
+fn check_seeds(
+    shape: Shape,
+    public: &[u8],
+    transcript: &[u8],
+    e: u8,
+    second: u64,
+    hidden: usize,
+    siblings: &[u8],
+    seeds: &mut [u8],
+    work: &mut [u8],
+) -> Answer
+    requires { ⌜ Given shape (now public) (now transcript) e second × (length (now siblings) ≡ shape .depth * 16)
+        × (length (now seeds) ≡ 16 * 2 ^ shape .depth) × (65536 ≤ length (now work)) ⌝ }
+    ensures { λ r. ⌜ r
+        ≡ checkParties (aesScheme shape) (now (public .entry)) (now (transcript .entry)) hidden
+        (shownSeed (aesScheme shape) (now (transcript .entry)) hidden (now (siblings .entry))) ⌝ }
+    ensures { λ _. ⌜ Scratch (now (work .entry)) (now (work .exit)) ⌝ }
+{
+    shown_seeds(shape, transcript, e, hidden, siblings, seeds);
     let end = shape.parties * 32;
     let found = first_commitment(shape, transcript, e, hidden, seeds, &mut work[0..end]);
     if found < shape.parties {
@@ -145,7 +225,7 @@ fn check_seeds(
     let all = 2 * (shape.parties * len);
     check_rows(
         shape,
-        public_key,
+        public,
         transcript,
         e,
         second,
@@ -158,7 +238,7 @@ fn check_seeds(
 // The same.
 fn check_parties(
     shape: Shape,
-    public_key: &[u8],
+    public: &[u8],
     transcript: &[u8],
     e: u8,
     second: u64,
@@ -166,10 +246,10 @@ fn check_parties(
     siblings: &[u8],
     work: &mut [u8],
 ) -> Answer
-    requires { ⌜ Given shape (now public_key) (now transcript) e second × (length (now siblings) ≡ shape .depth * 16)
+    requires { ⌜ Given shape (now public) (now transcript) e second × (length (now siblings) ≡ shape .depth * 16)
         × (65536 ≤ length (now work)) ⌝ }
     ensures { λ r. ⌜ r
-        ≡ checkParties (aesScheme shape) (now (public_key .entry)) (now (transcript .entry)) hidden
+        ≡ checkParties (aesScheme shape) (now (public .entry)) (now (transcript .entry)) hidden
         (shownSeed (aesScheme shape) (now (transcript .entry)) hidden (now (siblings .entry))) ⌝ }
     ensures { λ _. ⌜ Scratch (now (work .entry)) (now (work .exit)) ⌝ }
 {
@@ -177,7 +257,7 @@ fn check_parties(
     let end = sets::leaf_bytes(shape);
     check_seeds(
         shape,
-        public_key,
+        public,
         transcript,
         e,
         second,
@@ -188,23 +268,32 @@ fn check_parties(
     )
 }
 
+// The second challenge as a number.
+fn second_of(shape: Shape, transcript: &[u8]) -> u64
+    requires { ⌜ Valid shape × (length (now transcript) ≡ total (transcriptSizes shape)) ⌝ }
+    ensures { λ r. ⌜ r ≡ secondOf (aesScheme shape) (now (transcript .entry)) ⌝ }
+{
+    let sizes = sets::transcript_sizes(shape);
+    let at = fields::offset(&sizes, 8);
+    numbers::load(transcript, at, shape.wide)
+}
+
 // Numbers 8, 9 and 10, and then those; after those the work slice's front is zero.
 fn check_ranges(
     shape: Shape,
-    public_key: &[u8],
+    public: &[u8],
     transcript: &[u8],
     hidden: usize,
     siblings: &[u8],
     work: &mut [u8],
 ) -> Answer
-    requires { ⌜ Valid shape × (length (now public_key) ≡ 32) × (length (now transcript) ≡ total (transcriptSizes shape))
+    requires { ⌜ Valid shape × (length (now public) ≡ 32) × (length (now transcript) ≡ total (transcriptSizes shape))
         × (length (now siblings) ≡ shape .depth * 16) × (65536 ≤ length (now work)) ⌝ }
-    ensures { λ r. ⌜ r ≡ checkOpening (aesScheme shape) (now (public_key .entry)) (now (transcript .entry)) hidden (now (siblings .entry)) ⌝ }
+    ensures { λ r. ⌜ r ≡ checkOpening (aesScheme shape) (now (public .entry)) (now (transcript .entry)) hidden (now (siblings .entry)) ⌝ }
     ensures { λ _. ⌜ now (work .exit)
-        ≡ workAfter (checkOpening (aesScheme shape) (now (public_key .entry)) (now (transcript .entry)) hidden (now (siblings .entry)))
+        ≡ workAfter (checkOpening (aesScheme shape) (now (public .entry)) (now (transcript .entry)) hidden (now (siblings .entry)))
         (now (work .entry)) ⌝ }
 {
-    let sizes = sets::transcript_sizes(shape);
     let e = transcript[32];
     if (e as usize) >= shape.executions {
         return Answer::ExecutionRange;
@@ -212,33 +301,23 @@ fn check_ranges(
     if hidden >= shape.parties {
         return Answer::HiddenPartyRange;
     }
-    let at = fields::offset(&sizes, 8);
-    let second = numbers::load(transcript, at, shape.wide);
+    let second = second_of(shape, transcript);
     if second < (shape.m2 as u64) {
         return Answer::SecondChallengeRange;
     }
-    let answer = check_parties(
-        shape,
-        public_key,
-        transcript,
-        e,
-        second,
-        hidden,
-        siblings,
-        work,
-    );
+    let answer = check_parties(shape, public, transcript, e, second, hidden, siblings, work);
     slices::zero(&mut work[0..65536]);
     answer
 }
 
 // The call, which refuses by lengths first.
-pub fn verify_opening(shape: Shape, public_key: &[u8], opening: &[u8], work: &mut [u8]) -> Answer
+pub fn verify_opening(shape: Shape, public: &[u8], opening: &[u8], work: &mut [u8]) -> Answer
     requires { ⌜ Valid shape ⌝ }
-    ensures { λ r. ⌜ r ≡ verifyOpening (aesScheme shape) (now (public_key .entry)) (now (opening .entry)) (now (work .entry)) .answer ⌝ }
+    ensures { λ r. ⌜ r ≡ verifyOpening (aesScheme shape) (now (public .entry)) (now (opening .entry)) (now (work .entry)) .answer ⌝ }
     ensures { λ _. ⌜ now (work .exit)
-        ≡ verifyOpening (aesScheme shape) (now (public_key .entry)) (now (opening .entry)) (now (work .entry)) .work ⌝ }
+        ≡ verifyOpening (aesScheme shape) (now (public .entry)) (now (opening .entry)) (now (work .entry)) .work ⌝ }
 {
-    if public_key.len() != 32 {
+    if public.len() != 32 {
         return Answer::PublicKeyLength;
     }
     let sizes = sets::transcript_sizes(shape);
@@ -254,7 +333,7 @@ pub fn verify_opening(shape: Shape, public_key: &[u8], opening: &[u8], work: &mu
     let from = end + 1;
     check_ranges(
         shape,
-        public_key,
+        public,
         &opening[0..end],
         hidden,
         &opening[from..whole],

@@ -2,21 +2,23 @@
 use banquet::Answer;
 use banquet::Shape;
 ghost use mathlib.Core.Path.{_≡_};
-ghost use Prim.Native.Nat.{_+_, _*_, _<_, _≤_};
-ghost use lib.ListN.{length};
+ghost use Prim.Native.Nat.{_+_, _*_, _^_, _<_, _≤_};
+ghost use lib.ListN.{length, getD};
 ghost use Rattle.slices.specs.Lists.{rows as rowsOf, row, sumXor};
-ghost use Rattle.slices.specs.Layout.{total};
+ghost use Rattle.slices.specs.Layout.{total, field};
 ghost use Rattle.banquet.specs.Shape.{transcriptSizes};
 ghost use Rattle.sets.specs.Valid.{Valid};
 ghost use Rattle.sets.specs.Bounds.{rowSizes};
 ghost use Rattle.forms.specs.Stated.{statedRow};
 ghost use Rattle.forms.specs.Sums.{rowProductHolds, sumsAnswer};
 
-// Row i of rows as long as out.
-fn copy_row(i: usize, rows: &[u8], out: &mut [u8])
-    requires { ⌜ i * length (now out) + length (now out) ≤ length (now rows) ⌝ }
-    ensures { λ _. ⌜ now (out .exit) ≡ row (length (now (out .entry))) i (now (rows .entry)) ⌝ }
+// Row i of field k, where the rows are as long as out.
+fn copy_row(sizes: &[usize], k: usize, i: usize, s: &[u8], out: &mut [u8])
+    requires { ⌜ (k < length (now sizes)) × (total (now sizes) ≤ length (now s)) × (total (now sizes) < 2 ^ 63)
+        × (i * length (now out) + length (now out) ≤ getD (now sizes) k 0) ⌝ }
+    ensures { λ _. ⌜ now (out .exit) ≡ row (length (now (out .entry))) i (field (now (sizes .entry)) k (now (s .entry))) ⌝ }
 {
+    let rows = fields::field(sizes, k, s);
     let len = out.len();
     let a = i * len;
     let b = a + len;
@@ -30,14 +32,14 @@ fn stated_row(shape: Shape, transcript: &[u8], i: usize, out: &mut [u8])
     ensures { λ _. ⌜ now (out .exit) ≡ statedRow shape (now (transcript .entry)) i ⌝ }
 {
     let sizes = sets::transcript_sizes(shape);
-    let row = sets::row_sizes(shape);
+    let row = shape.m1 * shape.wide;
     let c = 16 + shape.wide;
-    let a = fields::offset(&row, 3);
-    let end = out.len();
-    copy_row(i, fields::field(&sizes, 3, transcript), &mut out[0..16]);
-    copy_row(i, fields::field(&sizes, 9, transcript), &mut out[16..c]);
-    copy_row(i, fields::field(&sizes, 10, transcript), &mut out[c..a]);
-    copy_row(i, fields::field(&sizes, 11, transcript), &mut out[a..end]);
+    let a = c + row;
+    let end = a + row;
+    copy_row(&sizes, 3, i, transcript, &mut out[0..16]);
+    copy_row(&sizes, 9, i, transcript, &mut out[16..c]);
+    copy_row(&sizes, 10, i, transcript, &mut out[c..a]);
+    copy_row(&sizes, 11, i, transcript, &mut out[a..end]);
 }
 
 // The stated shares of all parties.
@@ -67,7 +69,7 @@ fn product_holds(shape: Shape, sums: &[u8]) -> bool
     elements::load(shape.wide, fields::field(&sizes, 2, sums), &mut a);
     let mut b = [0u64; 10];
     elements::load(shape.wide, fields::field(&sizes, 3, sums), &mut b);
-    dots::dot(bits, shape.low, &b, &a) == c
+    c == dots::dot(bits, shape.low, &b, &a)
 }
 
 // The end of the check: the sum of the output shares is the ciphertext, and the product holds.

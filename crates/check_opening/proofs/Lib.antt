@@ -1,0 +1,4 @@
+-- The laws that the proofs cite.
+mod Rows
+mod Seeds
+mod Ranges

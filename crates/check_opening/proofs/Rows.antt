@@ -1,0 +1,189 @@
+-- The rows of all parties, worked out and stated: their sizes, and what their comparison answers. Assumes nothing.
+use mathlib.Core.Path.{_≡_, refl, sym, ap, ap₂, _∙_}
+use mathlib.Core.Bool.{_||_}
+use mathlib.Core.List.{List, _++_}
+use Prim.Native.Nat.{ℕ, _+_, _*_, _/_, _-_, _^_, _<_, _≤_}
+use native.Mathlib.Nat.{sub-zero}
+use native.Mathlib.Omega.{arith}
+use lib.Dec.{eqb}
+use lib.ListN.{length, getD, take, drop, length-append, length-take, length-drop}
+use lib.Seq.{take-all, take-at, drop-at}
+use borrow.Rule.Slice.PartMut.{putMid}
+use Rattle.slices.specs.Lists.{rows, row, same, sumXor}
+use Rattle.slices.specs.Tab.{length-rows, row-of-rows, rows-cong}
+use Rattle.slices.specs.Bytes.{Sized}
+use Rattle.slices.specs.Sums.{sumXor-cong}
+use Rattle.slices.specs.Numbers.{number-lt, length-bytesOf, length-numbers}
+use Rattle.slices.specs.Layout.{total, field, length-field, sized-field}
+use Rattle.slices.proofs.Put.{put-pair}
+use Rattle.compare.specs.Lowest.{lowest}
+use Rattle.banquet.specs.declared.Shape.{Shape}
+use Rattle.banquet.specs.declared.Answer.{Answer}
+use Rattle.banquet.specs.declared.Answer.the-variants.{ShareDiffers, ProductDiffers, Accepted}
+use Rattle.banquet.specs.Shape.{transcriptSizes, publicKeyLength, firstChallengeLength, productPoints}
+use Rattle.banquet.specs.Answer.{require}
+use Rattle.banquet.specs.Sets.{aesScheme}
+use Rattle.banquet.specs.Hash.{tape}
+use Rattle.banquet.specs.Execution.{challenge, outputShare}
+use Rattle.banquet.specs.Opening.{transcriptPart, committedOf, sharesHold, outputsHold, productHolds, executionOf, tapeUnder, checkShares}
+use Rattle.theorems.specs.Keys.{sized-front}
+use Rattle.theorems.specs.Shares.{Fits, hashed-tape, sized-outputShare}
+use Rattle.sets.specs.Valid.{Valid}
+use Rattle.sets.specs.Laws.{laws}
+use Rattle.sets.specs.Bounds.{rowSizes, rows-most}
+use Rattle.forms.specs.Party.{shareRow, committed}
+use Rattle.forms.specs.Stated.{statedRow, row-same}
+use Rattle.forms.specs.Sums.{sumsAnswer, length-stated, sums-outputs, sums-product}
+use Rattle.check_opening.specs.Steps.{Given, madeRow, rowsAnswer, each-found, each-none, each-cong}
+
+-- ---- two halves of one slice
+
+module _ (w : List ℕ) (n : ℕ) (long : length w ≡ 2 * n) where
+  -- lent and written one after the other
+  pub second-lent : (l : List ℕ) → length l ≡ length w → length (take (length w - length w / 2) (drop (length w / 2) l)) ≡ n
+  second-lent l h = simp (length-take, length-drop) (omega arith)
+
+  pub halves-put : {y y′ z z′ : List ℕ} → y ≡ y′ → length y′ ≡ n → z ≡ z′
+      → putMid (length w / 2) (length w - length w / 2) (putMid 0 (length w / 2 - 0) w y) z ≡ y′ ++ z′
+  halves-put e h f = rw sub-zero (put-pair (length w / 2) (length w - length w / 2) w e (omega arith) f (omega arith))
+
+-- read
+halves-read : (n : ℕ) {w a b : List ℕ} → w ≡ a ++ b → length a ≡ n → length b ≡ n
+    → (take (length w - length w / 2) (drop (length w / 2) w) ≡ b) × (take (length w / 2 - 0) w ≡ a)
+halves-read n {w} {a} {b} is h k =
+    let long : length w ≡ 2 * n = rw (is, length-append a b) (omega arith) in
+    let half : length w / 2 ≡ n = omega arith in
+    let rest : length w - length w / 2 ≡ n = omega arith in
+    let second : drop n w ≡ b = rw is (drop-at a b n h) in (
+      rw (rest, half, second) (take-all n b (omega arith)),
+      rw (sub-zero, half, is) (take-at a b n h),
+    )
+
+-- there is room for all rows, twice
+pub rows-fit : {S : Shape} {len : ℕ} → Valid S → len ≡ total (rowSizes S) → S .parties * len ≤ 18176
+rows-fit v e = rw e (rows-most v)
+
+-- ---- the fields of a transcript
+
+-- field k has its size
+pub field-size : (S : Shape) {sizes f : List ℕ} (t : List ℕ) (k : ℕ) → sizes ≡ transcriptSizes S → length t ≡ total (transcriptSizes S)
+    → f ≡ field sizes k t → length f ≡ getD (transcriptSizes S) k 0
+field-size S t k e h is = rw (is, e) (length-field (transcriptSizes S) k t h)
+
+module _ {S : Shape} {publicKey t : List ℕ} {e second : ℕ} (g : Given S publicKey t e second) where
+  open Shape S using (parties, wide, m1)
+
+  pub second-fits : second < 2 ^ (8 * wide)
+  second-fits =
+      let z = sized-field (transcriptSizes S) 8 (g .stated) in
+      rw (g .second-is) (number-lt (transcriptPart (aesScheme S) t 8) wide (z .bytes) (omega (arith, z .size)))
+
+  -- the public key's halves
+  pub key-size : length publicKey ≡ 32
+  key-size = omega (arith, g .key .size, g .valid .plaintext)
+
+  pub front-size : length (take 16 publicKey) ≡ 16
+  front-size = rw length-take (omega (arith, key-size))
+
+  pub ciphertext-is : take 16 (drop 16 publicKey) ≡ drop (S .front) publicKey
+  ciphertext-is =
+      rw (g .valid .plaintext) (take-all 16 (drop 16 publicKey) (omega (arith, length-drop 16 publicKey, key-size)))
+
+  -- ---- the rows worked out
+
+  pub made-right : {sizes salt front key inverse first product out : List ℕ} (seeds : List ℕ) → sizes ≡ transcriptSizes S
+      → salt ≡ field sizes 0 t → front ≡ take 16 publicKey → key ≡ field sizes 4 t → inverse ≡ field sizes 5 t → first ≡ field sizes 6 t
+      → product ≡ field sizes 7 t
+      → out ≡ rows (λ i. shareRow (aesScheme S) (committed front key inverse) (challenge (aesScheme S) first product second) i
+      (tape (aesScheme S) salt e i (row 16 i seeds))) parties
+      → out ≡ rows (madeRow S publicKey t seeds) parties
+  unfolding madeRow
+  made-right seeds z h0 hf h4 h5 h6 h7 is =
+      is ∙ rw (h0, hf, h4, h5, h6, h7, z, g .e-is, g .second-is, g .valid .plaintext) refl
+
+  fits : Fits (aesScheme S) (laws (g .valid)) (committedOf (aesScheme S) publicKey t)
+  fits = record {
+    fits-front = sized-front (aesScheme S) (laws (g .valid)) (g .key);
+    fits-key = sized-field (transcriptSizes S) 4 (g .stated);
+    fits-inverses = sized-field (transcriptSizes S) 5 (g .stated);
+  }
+
+  module _ (seeds : List ℕ) where
+    abbrev made : ℕ → List ℕ
+    made = madeRow S publicKey t seeds
+
+    made-size : (i : ℕ) → length (made i) ≡ total (rowSizes S)
+    unfolding madeRow shareRow
+    made-size i =
+        let u = tapeUnder (aesScheme S) t i (row 16 i seeds) in
+        let output : length (outputShare (aesScheme S) (committedOf (aesScheme S) publicKey t) i u) ≡ 16 =
+        sized-outputShare (aesScheme S) (laws (g .valid)) (committedOf (aesScheme S) publicKey t) fits i
+        (hashed-tape (aesScheme S) (laws (g .valid)) _ _ i (row 16 i seeds)) .size in
+        simp (length-append, length-bytesOf, length-numbers) (omega (arith, output))
+
+    stated-row : (i : ℕ) → i < parties → row (total (rowSizes S)) i (rows (statedRow S t) parties) ≡ statedRow S t i
+    stated-row i l = row-of-rows (total (rowSizes S)) (statedRow S t) parties (λ j m. length-stated (g .valid) (g .stated) j m) i l
+
+    pub stated-length : length (rows (statedRow S t) parties) ≡ parties * total (rowSizes S)
+    stated-length = length-rows (total (rowSizes S)) (statedRow S t) parties (λ j m. length-stated (g .valid) (g .stated) j m)
+
+    made-length : length (rows made parties) ≡ parties * total (rowSizes S)
+    made-length = length-rows (total (rowSizes S)) made parties (λ j m. made-size j)
+
+    made-row : (i : ℕ) → i < parties → row (total (rowSizes S)) i (rows made parties) ≡ made i
+    made-row i l = row-of-rows (total (rowSizes S)) made parties (λ j m. made-size j) i l
+
+    -- ---- numbers 14 and 15
+
+    row-tested : (i : ℕ) → i < parties
+        → same (row (total (rowSizes S)) i (rows made parties)) (row (total (rowSizes S)) i (rows (statedRow S t) parties))
+        ≡ sharesHold (aesScheme S) publicKey t i (row 16 i seeds)
+    unfolding madeRow
+    row-tested i l = ap₂ same (made-row i l) (stated-row i l) ∙ row-same (g .valid) (g .stated) (g .key) i l (row 16 i seeds)
+
+    sums-checked : sumsAnswer S (take 16 (drop 16 publicKey)) e
+        (sumXor parties (λ i. row (total (rowSizes S)) i (rows (statedRow S t) parties)))
+        ≡ require (outputsHold (aesScheme S) publicKey t) (ShareDiffers parties)
+        (require (productHolds (aesScheme S) publicKey t) (ProductDiffers (executionOf (aesScheme S) t)) Accepted)
+    unfolding sumsAnswer
+    sums-checked =
+        rw (sumXor-cong parties stated-row, ciphertext-is, sums-outputs (g .valid) (g .stated), sums-product (g .valid) (g .stated) publicKey, g .e-is)
+        refl
+
+    rows-checked : (hidden : ℕ)
+        → rowsAnswer S (take 16 (drop 16 publicKey)) e hidden (rows made parties) (rows (statedRow S t) parties)
+        ≡ checkShares (aesScheme S) publicKey t hidden (λ i. row 16 i seeds)
+    unfolding rowsAnswer checkShares
+    rows-checked hidden = each-cong ShareDiffers parties (λ i l. ap (eqb i hidden ||_) (row-tested i l)) sums-checked
+
+    -- the same as the code has it: the stated rows and those worked out in the halves of w
+    module _ (w : List ℕ) (is : w ≡ rows (statedRow S t) parties ++ rows made parties) where
+      read : (take (length w - length w / 2) (drop (length w / 2) w) ≡ rows made parties) × (take (length w / 2 - 0) w ≡ rows (statedRow S t) parties)
+      read = halves-read (parties * total (rowSizes S)) is stated-length made-length
+
+      pub read-lengths : (length (take (length w - length w / 2) (drop (length w / 2) w)) ≡ parties * total (rowSizes S))
+          × (length (take (length w / 2 - 0) w) ≡ parties * total (rowSizes S))
+      read-lengths = (ap length (read .0) ∙ made-length, ap length (read .1) ∙ stated-length)
+
+      pub halves-checked : (hidden : ℕ) {r : Answer}
+          → r ≡ rowsAnswer S (take 16 (drop 16 publicKey)) e hidden (take (length w - length w / 2) (drop (length w / 2) w)) (take (length w / 2 - 0) w)
+          → r ≡ checkShares (aesScheme S) publicKey t hidden (λ i. row 16 i seeds)
+      halves-checked hidden h =
+          h ∙ ap₂ (rowsAnswer S (take 16 (drop 16 publicKey)) e hidden) (read .0) (read .1) ∙ rows-checked hidden
+
+-- ---- the rows compared
+
+module _ (S : Shape) (ciphertext : List ℕ) (e hidden : ℕ) (made stated : List ℕ) {len found : ℕ} (size : len ≡ total (rowSizes S))
+    (f : found ≡ lowest (S .parties) 0 (λ i. eqb i hidden || same (row len i made) (row len i stated))) where
+  lowest-is : found ≡ lowest (S .parties) 0 (λ i. eqb i hidden || same (row (total (rowSizes S)) i made) (row (total (rowSizes S)) i stated))
+  lowest-is = f ∙ ap (λ n. lowest (S .parties) 0 (λ i. eqb i hidden || same (row n i made) (row n i stated))) size
+
+  pub row-differs : found < S .parties → ShareDiffers found ≡ rowsAnswer S ciphertext e hidden made stated
+  unfolding rowsAnswer
+  row-differs l = sym (each-found _ ShareDiffers _ (S .parties) lowest-is l)
+
+  pub rows-agree : {r : Answer} → S .parties ≤ found
+      → r ≡ sumsAnswer S ciphertext e (sumXor (S .parties) (λ i. row (total (rowSizes S)) i stated))
+      → r ≡ rowsAnswer S ciphertext e hidden made stated
+  unfolding rowsAnswer
+  rows-agree l w = w ∙ sym (each-none _ ShareDiffers _ (S .parties) lowest-is l)

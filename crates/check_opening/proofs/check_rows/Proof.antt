@@ -1,0 +1,28 @@
+-- `check_opening::check_rows` meets its contract: the halves are read back and compared. Assumes nothing.
+use borrow.Author.Needs.{needs}
+use Rattle.check_opening.proofs.Rows.{read-lengths, halves-checked}
+use Rattle.check_opening.proofs.check_rows.Statement.{statement}
+use Rattle.check_opening.proofs.check_rows.Tie as tie
+
+abbrev start : tie.After-fill-rows → tie.Start
+start f = f .before .before .before .before .before .before
+
+compare-rows-requires : tie.Need-compare-rows-requires
+compare-rows-requires c κs =
+    let f = c .before .before .before .before .before .before in
+    let s = start f in
+    let long = read-lengths (s .pre .0) (s .args .seeds .now) (f .fill-rows .last .1 .1 .1 .1 .1 .1 .0) (f .fill-rows .ensures) in
+    (s .pre .0 .valid, long .0, long .1)
+
+returns : tie.Need-returns
+returns c =
+    let f = c .before .before .before .before .before .before .before in
+    let s = start f in
+    halves-checked (s .pre .0) (s .args .seeds .now) (f .fill-rows .last .1 .1 .1 .1 .1 .1 .0) (f .fill-rows .ensures) (s .args .hidden)
+    (c .compare-rows .ensures)
+
+pub check-rows-spec : {M : Type 1} → statement M
+check-rows-spec =
+    tie.close
+    (tie.spec (λ c κs. search needs) (λ c. search needs) (λ c. search needs) (λ c. search needs) (λ c. search needs) (λ c. search needs)
+    (λ c. search needs) (λ c. search needs) (λ c. search needs) (λ c. search needs) compare-rows-requires (λ c. search needs) returns)
