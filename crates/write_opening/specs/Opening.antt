@@ -24,6 +24,12 @@ use Rattle.write_opening.specs.Written.{outputs, opened, written}
 use Rattle.write_opening.specs.Tapes.{key-cong, inverses-cong, offsets-cong}
 use Rattle.write_opening.specs.Columns.{shares, shareC, shareA, shareB, outputs-are, opened-are}
 
+-- the seeds as the tree gives them
+pub leaf-seeds : {S : Shape} → Valid S → (salt root : List ℕ) (e : ℕ) {seeds : List ℕ} → length root ≡ 16
+    → seeds ≡ nodeSeeds (leaves shake128 salt e (S .depth) 0 root) → (i : ℕ) → i < S .parties → row 16 i seeds ≡ seedOf (aesScheme S) salt root e i
+leaf-seeds {S} v salt root e h w i l = ap (row 16 i) w ∙ row-leaf salt e (S .depth) 0 root h i (omega (arith, v .leaves))
+
+-- the parts, one after the other
 assembled : (salt first bytes wc wa wb tail : List ℕ) (e : ℕ) {c c′ u u′ k k′ y y′ o o′ w : List ℕ} → c ≡ c′ → u ≡ u′ → k ≡ k′ → y ≡ y′ → o ≡ o′
     → w ≡ wc ++ (wa ++ wb) → (salt ++ e ∷ c) ++ (u ++ ((k ++ (y ++ (first ++ (o ++ bytes)))) ++ (w ++ tail)))
     ≡ layout (salt ∷ (e ∷ []) ∷ c′ ∷ u′ ∷ k′ ∷ y′ ∷ first ∷ o′ ∷ bytes ∷ wc ∷ wa ∷ wb ∷ []) ++ tail
@@ -37,14 +43,17 @@ module _ (S : Shape) (key publicKey salt root firstBytes : List ℕ) (e R : ℕ)
   abbrev tapes : ℕ → List ℕ
   tapes i = tape (aesScheme S) salt e i (row 16 i seeds)
 
+  -- the challenges, with the product offsets between them
+  abbrev challenges : List ℕ → Challenge
+  challenges offsets = challenge (aesScheme S) firstBytes offsets R
+
   -- what stands in the rows of seeds, in the offsets and in the rows of shares
   pub record Made (front keyOffset inverseOffsets offsets s : List ℕ) : Type 0 where
     pub seeds-are : (i : ℕ) → i < parties → row 16 i seeds ≡ seedOf (aesScheme S) salt root e i
     pub key-is : keyOffset ≡ ownCommitted (aesScheme S) tapes front key .keyOffset
     pub inverses-are : inverseOffsets ≡ ownCommitted (aesScheme S) tapes front key .inverseOffsets
     pub offsets-are : offsets ≡ productOffsets (aesScheme S) tapes front key firstBytes
-    pub rows-are : s ≡ rows (λ i. shareRow (aesScheme S) (committed front keyOffset inverseOffsets) (challenge (aesScheme S) firstBytes offsets R) i (tapes i))
-        parties
+    pub rows-are : s ≡ rows (λ i. shareRow (aesScheme S) (committed front keyOffset inverseOffsets) (challenges offsets) i (tapes i)) parties
 
   module _ {k y o s : List ℕ} (m : Made (frontOf (aesScheme S) publicKey) k y o s) (hidden : ℕ) where
     abbrev t : ℕ → List ℕ
@@ -60,7 +69,7 @@ module _ (S : Shape) (key publicKey salt root firstBytes : List ℕ) (e R : ℕ)
     off = productOffsets (aesScheme S) t f key firstBytes
 
     abbrev d : Challenge
-    d = challenge (aesScheme S) firstBytes off R
+    d = challenges off
 
     same : (i : ℕ) → i < parties → tapes i ≡ t i
     same i l = ap (tape (aesScheme S) salt e i) (m .seeds-are i l)
@@ -79,8 +88,8 @@ module _ (S : Shape) (key publicKey salt root firstBytes : List ℕ) (e R : ℕ)
         m .rows-are
         ∙ rows-cong parties
         (λ i l.
-        ap₂ (λ k y. shareRow (aesScheme S) (committed f k y) (challenge (aesScheme S) firstBytes o R) i (tapes i)) k-is y-is
-        ∙ ap₂ (λ o t. shareRow (aesScheme S) x (challenge (aesScheme S) firstBytes o R) i t) o-is (same i l))
+        ap₂ (λ k y. shareRow (aesScheme S) (committed f k y) (challenges o) i (tapes i)) k-is y-is
+        ∙ ap₂ (λ o t. shareRow (aesScheme S) x (challenges o) i t) o-is (same i l))
 
     commitments-are : rows (λ i. commitment (aesScheme S) salt e i (row 16 i seeds)) parties
         ≡ rows (λ i. commitment (aesScheme S) salt e i (seedOf (aesScheme S) salt root e i)) parties
@@ -96,8 +105,3 @@ module _ (S : Shape) (key publicKey salt root firstBytes : List ℕ) (e R : ℕ)
   pub written-opening : {front k y o s : List ℕ} → front ≡ frontOf (aesScheme S) publicKey → Made front k y o s → (hidden : ℕ)
       → written S salt e root hidden seeds k y firstBytes o R s ≡ opening (aesScheme S) key publicKey salt root firstBytes e R hidden
   written-opening {front} {k} {y} {o} {s} h m hidden = is-opening (subst (λ f. Made f k y o s) h m) hidden
-
-  -- the seeds as the tree gives them
-  pub leaf-seeds : Valid S → length root ≡ 16 → seeds ≡ nodeSeeds (leaves shake128 salt e depth 0 root)
-      → (i : ℕ) → i < parties → row 16 i seeds ≡ seedOf (aesScheme S) salt root e i
-  leaf-seeds v h w i l = ap (row 16 i) w ∙ row-leaf salt e depth 0 root h i (omega (arith, v .leaves))
