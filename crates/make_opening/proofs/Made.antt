@@ -43,7 +43,7 @@ module _ {S : Shape} (v : Valid S) (key public salt root first seeds : List ℕ)
     where
       made : Made S key public salt root first e second seeds front k y o s
       made = record {
-        seeds-are = leaf-seeds S key public salt root first e second seeds v root-size seeds-is;
+        seeds-are = leaf-seeds v salt root e root-size seeds-is;
         key-is = k-is ∙ key-offset v drawn front key;
         inverses-are = y-is ∙ inverse-offsets v drawn front key (i .inverses-is);
         offsets-are = o-is ∙ product-offsets v drawn front key (i .inputs-is) (i .inverses-is) (p .us-is) (p .vs-is) (p .lasts-is) first;
