@@ -85,7 +85,7 @@ same-length : tie.Need-same-length
 same-length c =
     let z = c .before .before in
     let p = z .before .before .before .before .check-parties in
-    same-len-mid 0 _ (p .last .1 .1 .1 .1 .1 .1 .1 .0) (z .zero .last .0) (z .zero .kept .0) ∙ p .kept .1 .1 .1 .1 .1 .1 .1 .0
+    same-len-mid 0 65536 (p .last .1 .1 .1 .1 .1 .1 .1 .0) (z .zero .last .0) (z .zero .kept .0) ∙ p .kept .1 .1 .1 .1 .1 .1 .1 .0
 
 pub check-ranges-spec : {M : Type 1} → statement M
 check-ranges-spec =
