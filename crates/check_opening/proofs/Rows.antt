@@ -3,24 +3,20 @@ use mathlib.Core.Path.{_≡_, refl, sym, ap, ap₂, _∙_}
 use mathlib.Core.Bool.{_||_}
 use mathlib.Core.List.{List, _++_}
 use Prim.Native.Nat.{ℕ, _+_, _*_, _/_, _-_, _^_, _<_, _≤_}
-use native.Mathlib.Nat.{sub-zero}
 use native.Mathlib.Omega.{arith}
 use lib.Dec.{eqb}
 use lib.ListN.{length, getD, take, drop, length-append, length-take, length-drop}
-use lib.Seq.{take-all, take-at, drop-at}
-use borrow.Rule.Slice.PartMut.{putMid}
+use lib.Seq.{take-all}
 use Rattle.slices.specs.Lists.{rows, row, same, sumXor}
-use Rattle.slices.specs.Tab.{length-rows, row-of-rows, rows-cong}
-use Rattle.slices.specs.Bytes.{Sized}
+use Rattle.slices.specs.Tab.{length-rows, row-of-rows}
 use Rattle.slices.specs.Sums.{sumXor-cong}
 use Rattle.slices.specs.Numbers.{number-lt, length-bytesOf, length-numbers}
 use Rattle.slices.specs.Layout.{total, field, length-field, sized-field}
-use Rattle.slices.proofs.Put.{put-pair}
 use Rattle.compare.specs.Lowest.{lowest}
 use Rattle.banquet.specs.declared.Shape.{Shape}
 use Rattle.banquet.specs.declared.Answer.{Answer}
 use Rattle.banquet.specs.declared.Answer.the-variants.{ShareDiffers, ProductDiffers, Accepted}
-use Rattle.banquet.specs.Shape.{transcriptSizes, publicKeyLength, firstChallengeLength, productPoints}
+use Rattle.banquet.specs.Shape.{transcriptSizes}
 use Rattle.banquet.specs.Answer.{require}
 use Rattle.banquet.specs.Sets.{aesScheme}
 use Rattle.banquet.specs.Hash.{tape}
@@ -35,29 +31,7 @@ use Rattle.forms.specs.Party.{shareRow, committed}
 use Rattle.forms.specs.Stated.{statedRow, row-same}
 use Rattle.forms.specs.Sums.{sumsAnswer, length-stated, sums-outputs, sums-product}
 use Rattle.check_opening.specs.Steps.{Given, madeRow, rowsAnswer, each-found, each-none, each-cong}
-
--- ---- two halves of one slice
-
-module _ (w : List ℕ) (n : ℕ) (long : length w ≡ 2 * n) where
-  -- lent and written one after the other
-  pub second-lent : (l : List ℕ) → length l ≡ length w → length (take (length w - length w / 2) (drop (length w / 2) l)) ≡ n
-  second-lent l h = simp (length-take, length-drop) (omega arith)
-
-  pub halves-put : {y y′ z z′ : List ℕ} → y ≡ y′ → length y′ ≡ n → z ≡ z′
-      → putMid (length w / 2) (length w - length w / 2) (putMid 0 (length w / 2 - 0) w y) z ≡ y′ ++ z′
-  halves-put e h f = rw sub-zero (put-pair (length w / 2) (length w - length w / 2) w e (omega arith) f (omega arith))
-
--- read
-halves-read : (n : ℕ) {w a b : List ℕ} → w ≡ a ++ b → length a ≡ n → length b ≡ n
-    → (take (length w - length w / 2) (drop (length w / 2) w) ≡ b) × (take (length w / 2 - 0) w ≡ a)
-halves-read n {w} {a} {b} is h k =
-    let long : length w ≡ 2 * n = rw (is, length-append a b) (omega arith) in
-    let half : length w / 2 ≡ n = omega arith in
-    let rest : length w - length w / 2 ≡ n = omega arith in
-    let second : drop n w ≡ b = rw is (drop-at a b n h) in (
-      rw (rest, half, second) (take-all n b (omega arith)),
-      rw (sub-zero, half, is) (take-at a b n h),
-    )
+use Rattle.check_opening.proofs.Halves.{halves-read}
 
 -- there is room for all rows, twice
 pub rows-fit : {S : Shape} {len : ℕ} → Valid S → len ≡ total (rowSizes S) → S .parties * len ≤ 18176
@@ -147,8 +121,13 @@ module _ {S : Shape} {publicKey t : List ℕ} {e second : ℕ} (g : Given S publ
         (require (productHolds (aesScheme S) publicKey t) (ProductDiffers (executionOf (aesScheme S) t)) Accepted)
     unfolding sumsAnswer
     sums-checked =
-        rw (sumXor-cong parties stated-row, ciphertext-is, sums-outputs (g .valid) (g .stated), sums-product (g .valid) (g .stated) publicKey, g .e-is)
-        refl
+        rw (
+          sumXor-cong parties stated-row,
+          ciphertext-is,
+          sums-outputs (g .valid) (g .stated),
+          sums-product (g .valid) (g .stated) publicKey,
+          g .e-is,
+        ) refl
 
     rows-checked : (hidden : ℕ)
         → rowsAnswer S (take 16 (drop 16 publicKey)) e hidden (rows made parties) (rows (statedRow S t) parties)
@@ -158,7 +137,8 @@ module _ {S : Shape} {publicKey t : List ℕ} {e second : ℕ} (g : Given S publ
 
     -- the same as the code has it: the stated rows and those worked out in the halves of w
     module _ (w : List ℕ) (is : w ≡ rows (statedRow S t) parties ++ rows made parties) where
-      read : (take (length w - length w / 2) (drop (length w / 2) w) ≡ rows made parties) × (take (length w / 2 - 0) w ≡ rows (statedRow S t) parties)
+      read : (take (length w - length w / 2) (drop (length w / 2) w) ≡ rows made parties)
+          × (take (length w / 2 - 0) w ≡ rows (statedRow S t) parties)
       read = halves-read (parties * total (rowSizes S)) is stated-length made-length
 
       pub read-lengths : (length (take (length w - length w / 2) (drop (length w / 2) w)) ≡ parties * total (rowSizes S))
@@ -166,7 +146,8 @@ module _ {S : Shape} {publicKey t : List ℕ} {e second : ℕ} (g : Given S publ
       read-lengths = (ap length (read .0) ∙ made-length, ap length (read .1) ∙ stated-length)
 
       pub halves-checked : (hidden : ℕ) {r : Answer}
-          → r ≡ rowsAnswer S (take 16 (drop 16 publicKey)) e hidden (take (length w - length w / 2) (drop (length w / 2) w)) (take (length w / 2 - 0) w)
+          → r ≡ rowsAnswer S (take 16 (drop 16 publicKey)) e hidden (take (length w - length w / 2) (drop (length w / 2) w))
+          (take (length w / 2 - 0) w)
           → r ≡ checkShares (aesScheme S) publicKey t hidden (λ i. row 16 i seeds)
       halves-checked hidden h =
           h ∙ ap₂ (rowsAnswer S (take 16 (drop 16 publicKey)) e hidden) (read .0) (read .1) ∙ rows-checked hidden

@@ -161,13 +161,8 @@ fn first_commitment(
         seeds,
         scratch,
     );
-    compare::first_difference(
-        shape.parties,
-        32,
-        hidden,
-        scratch,
-        fields::field(&sizes, 2, transcript),
-    )
+    let stated = fields::field(&sizes, 2, transcript);
+    compare::first_difference(shape.parties, 32, hidden, scratch, stated)
 }
 
 // The seeds that the sibling seeds expand to.

@@ -1,14 +1,12 @@
 -- `check_opening::check_ranges` meets its contract: the ranges in the call's order, then the parties, and the front is zero. Assumes nothing.
-use mathlib.Core.Path.{_≡_, sym, _∙_}
-use Prim.Native.Nat.{_<_}
+use mathlib.Core.Path.{_≡_, _∙_}
 use native.Mathlib.Omega.{arith}
-use lib.ListN.{length, getD}
+use lib.ListN.{getD}
 use borrow.Author.Needs.{needs}
 use borrow.Rule.Slice.PartMut.{same-len-mid}
 use Rattle.slices.specs.Bytes.{bytes-of}
 use Rattle.banquet.specs.Sets.{aesScheme}
 use Rattle.banquet.specs.Opening.{executionOf}
-use Rattle.check_opening.specs.Steps.{Given}
 use Rattle.check_opening.proofs.Ranges.{
   execution-is,
   execution-refused,

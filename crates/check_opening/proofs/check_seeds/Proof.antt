@@ -1,5 +1,5 @@
 -- `check_opening::check_seeds` meets its contract: number 13, then the rows; only the front of the work slice is written. Assumes nothing.
-use mathlib.Core.Path.{_≡_, ap, _∙_}
+use mathlib.Core.Path.{ap, _∙_}
 use mathlib.Core.List.{List}
 use Prim.Native.Nat.{ℕ, _*_, _-_, _≤_}
 use native.Mathlib.Omega.{arith}
@@ -9,7 +9,7 @@ use borrow.Rule.Slice.PartMut.{putMid}
 use Rattle.check_opening.specs.Steps.{Scratch}
 use Rattle.check_opening.proofs.Rows.{rows-fit}
 use Rattle.check_opening.proofs.Seeds.{commitment-refused, commitments-passed}
-use Rattle.check_opening.proofs.Ranges.{front-long, scratch-front, scratch-then}
+use Rattle.check_opening.proofs.Scratch.{front-long, scratch-front, scratch-then}
 use Rattle.check_opening.proofs.check_seeds.Statement.{statement}
 use Rattle.check_opening.proofs.check_seeds.Tie as tie
 

@@ -5,7 +5,8 @@ use borrow.Author.Needs.{needs}
 use borrow.Rule.Slice.PartMut.{putMid, same-len-mid}
 use Rattle.slices.specs.Layout.{total}
 use Rattle.sets.specs.Bounds.{rowSizes}
-use Rattle.check_opening.proofs.Rows.{second-lent, halves-put, stated-length}
+use Rattle.check_opening.proofs.Halves.{second-lent, halves-put}
+use Rattle.check_opening.proofs.Rows.{stated-length}
 use Rattle.check_opening.proofs.fill_rows.Statement.{statement}
 use Rattle.check_opening.proofs.fill_rows.Tie as tie
 

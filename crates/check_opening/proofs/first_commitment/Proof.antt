@@ -15,7 +15,7 @@ abbrev sized : tie.After-hash-rows → tie.After-transcript-sizes
 sized h = h .before .before .before .before
 
 abbrev hashed : tie.After-sizes2 → tie.After-hash-rows
-hashed c = c .before .before .before .before
+hashed c = c .before .before .before
 
 field-requires : tie.Need-field-requires
 field-requires c κs =
@@ -42,16 +42,17 @@ field-requires-2 c κs =
 
 first-difference-requires : tie.Need-first-difference-requires
 first-difference-requires c κs =
-    let h = hashed (c .before) in
+    let g = c .before in
+    let h = hashed (g .before) in
     let z = sized h in
     let s = start z in (
       h .hash-rows .kept .1 .1 .1 .1 .1 .1 .0 ∙ s .pre .4,
-      field-size (s .args .shape) (s .args .transcript .now) 2 (z .transcript-sizes .ensures) (s .pre .1) (c .field2 .ensures),
+      field-size (s .args .shape) (s .args .transcript .now) 2 (z .transcript-sizes .ensures) (s .pre .1) (g .field2 .ensures),
     )
 
 returns : tie.Need-returns
 returns c =
-    let g = c .before in
+    let g = c .before .before in
     let h = hashed (g .before) in
     let z = sized h in
     let s = start z in

@@ -1,8 +1,7 @@
 -- `check_opening::second_of` meets its contract. Assumes nothing.
 use mathlib.Core.Path.{_≡_, sym, ap, _∙_}
-use Prim.Native.Nat.{_+_, _≤_}
 use native.Mathlib.Omega.{arith}
-use lib.ListN.{length, take}
+use lib.ListN.{take}
 use borrow.Author.Needs.{needs}
 use Rattle.slices.specs.Lists.{part}
 use Rattle.slices.specs.Numbers.{number}

@@ -7,7 +7,7 @@ use borrow.Author.Needs.{needs}
 use Rattle.slices.specs.Layout.{total}
 use Rattle.banquet.specs.Shape.{transcriptSizes}
 use Rattle.sets.specs.Bounds.{transcript-most}
-use Rattle.check_opening.proofs.Ranges.{sizes-fit, key-refused, file-refused, work-refused, parts-long, opening-checked}
+use Rattle.check_opening.proofs.Call.{sizes-fit, key-refused, file-refused, work-refused, parts-long, opening-checked}
 use Rattle.check_opening.proofs.verify_opening.Statement.{statement}
 use Rattle.check_opening.proofs.verify_opening.Tie as tie
 
