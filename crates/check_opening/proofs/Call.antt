@@ -19,7 +19,7 @@ use Rattle.banquet.specs.Opening.{transcriptOf, hiddenOf, siblingsOf, checkOpen
 use Rattle.banquet.specs.Calls.{verifyOpeningAnswer}
 use Rattle.sets.specs.Valid.{Valid}
 use Rattle.sets.specs.Bounds.{transcript-most}
-use Rattle.check_opening.proofs.Scratch.{called}
+use Rattle.check_opening.proofs.Clears.{called}
 
 -- all sizes can be added
 pub sizes-fit : {S : Shape} {sizes : List ℕ} → Valid S → sizes ≡ transcriptSizes S → (12 ≤ length sizes) × (total sizes < 2 ^ 63)

@@ -2,6 +2,6 @@
 mod Halves
 mod Rows
 mod Seeds
-mod Scratch
+mod Clears
 mod Ranges
 mod Call

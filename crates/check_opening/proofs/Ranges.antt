@@ -1,9 +1,9 @@
 -- Numbers 8, 9 and 10 of the check of an opening, and what follows them. Assumes nothing.
 use mathlib.Core.Path.{_≡_, refl, sym, _∙_}
-use mathlib.Core.List.{List, _++_}
+use mathlib.Core.List.{List}
 use Prim.Native.Nat.{ℕ, _<_, _≤_}
 use native.Mathlib.Omega.{arith}
-use lib.ListN.{length, getD, take, drop, replicate}
+use lib.ListN.{length, getD}
 use lib.Seq.{drop-cons}
 use borrow.Author.Tests.{lt-ltb, le-ltb, le-leb, lt-leb}
 use Rattle.slices.specs.Numbers.{number}
@@ -11,12 +11,11 @@ use Rattle.slices.specs.Layout.{field}
 use Rattle.banquet.specs.declared.Shape.{Shape}
 use Rattle.banquet.specs.declared.Answer.{Answer}
 use Rattle.banquet.specs.declared.Answer.the-variants.{ExecutionRange, HiddenPartyRange, SecondChallengeRange}
-use Rattle.banquet.specs.Shape.{workLength}
 use Rattle.banquet.specs.Sets.{aesScheme}
-use Rattle.banquet.specs.Answer.{require, workAfter}
+use Rattle.banquet.specs.Answer.{require, cleared, workAfter}
 use Rattle.banquet.specs.Opening.{executionOf, secondOf, shownSeed, checkParties, checkOpening}
-use Rattle.check_opening.specs.Steps.{Scratch}
-use Rattle.check_opening.proofs.Scratch.{scratch-cleared, Clears, parties-clear, work-clears, called}
+use Rattle.scratch.specs.Scratch.{Scratch, cleared-scratch}
+use Rattle.check_opening.proofs.Clears.{Clears, parties-clear, work-clears, called}
 
 -- the execution is a byte
 pub execution-is : (S : Shape) (t : List ℕ) → 32 < length t → getD t 32 0 ≡ executionOf (aesScheme S) t
@@ -53,10 +52,10 @@ module _ (S : Shape) (publicKey t : List ℕ) (hidden : ℕ) (siblings work : Li
             rw (← is, ← second-is) (simp (lt-ltb e executions pass, lt-ltb hidden parties pass-hidden, le-leb m2 second h))
 
         -- the parties are checked, and the work slice's front is set to zero
-        pub parties-checked : m2 ≤ second → {r : Answer} {v z : List ℕ} → workLength ≤ length work
-            → r ≡ checkParties (aesScheme S) publicKey t hidden (shownSeed (aesScheme S) t hidden siblings) → Scratch work v
-            → z ≡ replicate (length (take workLength v)) 0 → (r ≡ answer) × (z ++ drop workLength v ≡ workAfter answer work)
-        parties-checked h {r} {v} room w s e =
-            let is-r : answer ≡ r = ranges-passed h ∙ sym w in
-            let clear : Clears r = rw w (parties-clear S publicKey t hidden (shownSeed (aesScheme S) t hidden siblings)) in
-            called work is-r (scratch-cleared work v s room e ∙ work-clears work clear)
+        pub parties-checked : m2 ≤ second → {r : Answer} {u w : List ℕ}
+            → r ≡ checkParties (aesScheme S) publicKey t hidden (shownSeed (aesScheme S) t hidden siblings) → Scratch work u → w ≡ cleared u
+            → (r ≡ answer) × (w ≡ workAfter answer work)
+        parties-checked h {r} q s e =
+            let is-r : answer ≡ r = ranges-passed h ∙ sym q in
+            let clear : Clears r = rw q (parties-clear S publicKey t hidden (shownSeed (aesScheme S) t hidden siblings)) in
+            called work is-r (e ∙ cleared-scratch s ∙ work-clears work clear)

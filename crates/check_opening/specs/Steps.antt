@@ -30,11 +30,6 @@ pub record Given (S : Shape) (publicKey transcript : List ℕ) (e second : ℕ) 
   pub e-is : e ≡ executionOf (aesScheme S) transcript
   pub second-is : second ≡ secondOf (aesScheme S) transcript
 
--- the work slice is scratch: only its front may differ
-pub record Scratch (w w′ : List ℕ) : Type 0 where
-  pub long : length w′ ≡ length w
-  pub rest : drop workLength w′ ≡ drop workLength w
-
 -- party i's row, worked out from its seed
 unfoldable pub madeRow : Shape → List ℕ → List ℕ → List ℕ → ℕ → List ℕ
 madeRow S publicKey transcript seeds i =

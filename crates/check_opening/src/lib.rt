@@ -21,7 +21,8 @@ ghost use Rattle.banquet.specs.Calls.{verifyOpening};
 ghost use Rattle.sets.specs.Valid.{Valid};
 ghost use Rattle.sets.specs.Bounds.{rowSizes};
 ghost use Rattle.forms.specs.Stated.{statedRow};
-ghost use Rattle.check_opening.specs.Steps.{Given, Scratch, madeRow, rowsAnswer};
+ghost use Rattle.scratch.specs.Scratch.{Scratch};
+ghost use Rattle.check_opening.specs.Steps.{Given, madeRow, rowsAnswer};
 
 // The rows of all parties as they are worked out from the seeds.
 fn made_rows(
@@ -301,7 +302,7 @@ fn check_ranges(
         return Answer::SecondChallengeRange;
     }
     let answer = check_parties(shape, public, transcript, e, second, hidden, siblings, work);
-    slices::zero(&mut work[0..65536]);
+    scratch::clear(work);
     answer
 }
 

@@ -582,19 +582,20 @@ pub fn lift32(a: u8) -> u32
     LIFT32[a as usize]
 }
 
-// The powers of y, the lifts of 1, 2, 4, .. 128: every lift is the sum of some of them.
+// The powers of y, which are the lifts of 1, 2, 4, .. 128, read from the table: every lift is the sum of some of them.
 pub fn powers32() -> [u64; 8]
     ensures { λ r. ⌜ r ≡ powers32 ⌝ }
 {
+    let lifts = LIFT32;
     [
-        1,
-        1084517114,
-        3294965244,
-        2127406947,
-        2626399570,
-        1050887763,
-        77245034,
-        1283290107,
+        lifts[1] as u64,
+        lifts[2] as u64,
+        lifts[4] as u64,
+        lifts[8] as u64,
+        lifts[16] as u64,
+        lifts[32] as u64,
+        lifts[64] as u64,
+        lifts[128] as u64,
     ]
 }
 

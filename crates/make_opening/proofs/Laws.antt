@@ -1,11 +1,10 @@
 -- Lengths, and parts that are lent and come back. Assumes nothing.
-use mathlib.Core.Path.{_≡_, refl, sym, ap, _∙_}
-use mathlib.Core.List.{List, _++_, map}
-use Prim.Native.Nat.{ℕ, _+_, _-_, _*_, _^_, _<_, _≤_}
+use mathlib.Core.Path.{_≡_, ap, _∙_}
+use mathlib.Core.List.{List}
+use Prim.Native.Nat.{ℕ, _-_, _*_, _^_, _<_, _≤_}
 use native.Mathlib.Nat.{mul-le-mul-right}
 use native.Mathlib.Omega.{arith}
-use lib.ListN.{length, take, drop, length-append, length-drop, length-map}
-use lib.Seq.{length-take-le, drop-append-add, drop-drop}
+use lib.ListN.{length, take, length-map}
 use borrow.Rule.Slice.PartMut.{putMid}
 use Rattle.slices.specs.Layout.{total}
 use Rattle.field.specs.Byte.{inverse8}
@@ -13,7 +12,7 @@ use Rattle.shake.specs.Shake128.{shake128}
 use Rattle.aes.specs.Sizes.{length-sboxInputs}
 use Rattle.banquet.specs.declared.Shape.{Shape}
 use Rattle.banquet.specs.declared.Answer.the-variants.{Accepted}
-use Rattle.banquet.specs.Shape.{workLength, transcriptSizes, openingLength}
+use Rattle.banquet.specs.Shape.{transcriptSizes}
 use Rattle.banquet.specs.Sets.{aesScheme}
 use Rattle.banquet.specs.Answer.{outputAfter}
 use Rattle.banquet.specs.Key.{frontOf}
@@ -21,7 +20,6 @@ use Rattle.banquet.specs.Tree.{nodeSeeds, leaves}
 use Rattle.tree.specs.Rows.{length-leaf-seeds}
 use Rattle.sets.specs.Valid.{Valid}
 use Rattle.sets.specs.Bounds.{transcript-most}
-use Rattle.scratch.specs.Scratch.{Scratch}
 use Rattle.make_opening.specs.Steps.{Inverted}
 
 -- ---- a front that was lent and comes back
@@ -29,22 +27,6 @@ use Rattle.make_opening.specs.Steps.{Inverted}
 pub front-output : (n : ℕ) (d : List ℕ) {y s : List ℕ} → y ≡ s → length s ≡ n → putMid 0 (n - 0) d y ≡ outputAfter Accepted s d
 unfolding outputAfter
 front-output n d {y} {s} e h = let z : n - 0 ≡ length s = omega (arith, h) in rw (z, e)
-
-pub front-scratch : (n : ℕ) (w z : List ℕ) → n ≤ workLength → n ≤ length w → length z ≡ n → Scratch w (putMid 0 (n - 0) w z)
-front-scratch n w z h l e =
-    let k : n - 0 ≡ n = omega arith in
-    rw k
-    (record {
-      long = length-append z (drop n w) ∙ omega (arith, e, l, length-drop n w);
-      rest = ap (λ m. drop m (z ++ drop n w)) split ∙ drop-append-add z (drop n w) (workLength - n) ∙ drop-drop (workLength - n) n w
-          ∙ ap (λ m. drop m w) whole;
-    })
-  where
-    split : workLength ≡ length z + (workLength - n)
-    split = omega (arith, e, h)
-
-    whole : n + (workLength - n) ≡ workLength
-    whole = omega (arith, h)
 
 module _ {S : Shape} (v : Valid S) where
   open Shape S using (parties, depth)

@@ -1,9 +1,8 @@
 -- `check_opening::check_ranges` meets its contract: the ranges in the call's order, then the parties, and the front is zero. Assumes nothing.
-use mathlib.Core.Path.{_≡_, _∙_}
+use mathlib.Core.Path.{_≡_}
 use native.Mathlib.Omega.{arith}
 use lib.ListN.{getD}
 use borrow.Author.Needs.{needs}
-use borrow.Rule.Slice.PartMut.{same-len-mid}
 use Rattle.slices.specs.Bytes.{bytes-of}
 use Rattle.banquet.specs.Sets.{aesScheme}
 use Rattle.banquet.specs.Opening.{executionOf}
@@ -67,6 +66,12 @@ check-parties-requires c κs =
       s .pre .4,
     )
 
+clear-requires : tie.Need-clear-requires
+clear-requires c κs =
+    let p = c .before .before .before in
+    let s = start (p .before .before .before .before .before .before .before) in
+    omega (arith, p .check-parties .ensures .1 .long, s .pre .4)
+
 returns-4 : tie.Need-returns-4
 returns-4 c =
     let z = c .before .before in
@@ -75,20 +80,13 @@ returns-4 c =
     let u = n .before in
     let t = u .before .before in
     let k = t .before in
-    let s = start k in
-    let a = s .args in
+    let a = start k .args in
     parties-checked (a .shape) (a .public .now) (a .transcript .now) (a .hidden) (a .siblings .now) (a .work .now) (numbered k) (t .if1 .left)
-    (u .if2 .left) (n .second-of .ensures) (p .before .before .if3 .left) (s .pre .4) (p .check-parties .ensures .0)
-    (p .check-parties .ensures .1) (z .zero .ensures)
-
-same-length : tie.Need-same-length
-same-length c =
-    let z = c .before .before in
-    let p = z .before .before .before .before .check-parties in
-    same-len-mid 0 65536 (p .last .1 .1 .1 .1 .1 .1 .1 .0) (z .zero .last .0) (z .zero .kept .0) ∙ p .kept .1 .1 .1 .1 .1 .1 .1 .0
+    (u .if2 .left) (n .second-of .ensures) (p .before .before .if3 .left) (p .check-parties .ensures .0) (p .check-parties .ensures .1)
+    (z .clear .ensures)
 
 pub check-ranges-spec : {M : Type 1} → statement M
 check-ranges-spec =
     tie.close
     (tie.spec (λ c. search needs) (λ c. omega (arith, c .shared-slice-known4 .given 32)) returns returns-2 (λ c κs. search needs) returns-3
-    check-parties-requires (λ c. search needs) (λ c. search needs) (λ c. search needs) (λ c κs. search needs) same-length returns-4)
+    check-parties-requires clear-requires (λ c. search needs) returns-4)

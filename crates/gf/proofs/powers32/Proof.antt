@@ -1,5 +1,6 @@
--- `gf::powers32` answers the powers of y: the two lists, computed, are one. Assumes nothing.
+-- `gf::powers32` answers the powers of y: the table's entries and the list, computed, are one. Assumes nothing.
 use mathlib.Core.Path.{refl}
+use borrow.Author.Needs.{needs}
 use Rattle.field.specs.Wide32.{powers32}
 use Rattle.gf.proofs.powers32.Statement.{statement}
 use Rattle.gf.proofs.powers32.Tie as tie
@@ -9,4 +10,8 @@ unfolding powers32
 returns c = refl
 
 pub powers32-spec : {M : Type 1} → statement M
-powers32-spec = tie.close (tie.spec returns)
+powers32-spec =
+    tie.close
+    (tie.spec (λ c. search needs) (λ c. search needs) (λ c. search needs) (λ c. search needs) (λ c. search needs) (λ c. search needs)
+    (λ c. search needs) (λ c. search needs) (λ c. search needs) (λ c. search needs) (λ c. search needs) (λ c. search needs)
+    (λ c. search needs) (λ c. search needs) (λ c. search needs) (λ c. search needs) returns)

@@ -1,12 +1,13 @@
 -- `make_opening::make` meets its contract. Assumes nothing.
-use mathlib.Core.Path.{refl, sym, ap, _∙_}
+use mathlib.Core.Path.{sym, ap, _∙_}
 use Prim.Native.Nat.{_*_, _≤_}
 use native.Mathlib.Omega.{arith}
 use lib.ListN.{length}
 use borrow.Author.Needs.{needs}
 use Rattle.sets.specs.Bounds.{leaves-most, rows-most}
+use Rattle.scratch.proofs.Laws.{scratch-front}
 use Rattle.party_shares.proofs.Laws.{front-long}
-use Rattle.make_opening.proofs.Laws.{front-output, front-scratch}
+use Rattle.make_opening.proofs.Laws.{front-output}
 use Rattle.make_opening.proofs.make.Statement.{statement}
 use Rattle.make_opening.proofs.make.Tie as tie
 
@@ -16,31 +17,35 @@ counted c = rw (c .row-length .ensures) (rows-most (c .before .before .before .b
 
 make-rows-requires : tie.Need-make-rows-requires
 make-rows-requires c κs =
-    let s = c .before .before .before .before .before .before .before .before .before .before .before .before .before .before .before .before in
+    let sized = c .before .before .before in
+    let rowed = sized .before .before in
+    let leaved = rowed .before in
+    let s = leaved .before .before .before .before .before .before .before .before .before .before in
     let p = s .pre in
-    let v = p .0 .valid in
-    let room = counted (c .before .before .before .before .before) in (
+    let room = counted rowed in (
       p .0,
       p .1,
       p .2,
-      front-long _ (c .before .before .before .before .before .before .leaf-bytes .ensures) (omega (arith, c .before .before .before .before .before .before .leaf-bytes .ensures, leaves-most v)),
-      front-long _ (ap (λ n. s .args .shape .parties * n) (c .before .before .before .before .before .row-length .ensures)) (omega (arith, room, p .4)),
-      front-long _ (c .before .before .before .opening-length .ensures) (omega (arith, c .before .before .before .opening-length .ensures, p .3)),
+      front-long _ (leaved .leaf-bytes .ensures) (omega (arith, leaved .leaf-bytes .ensures, leaves-most (p .0 .valid))),
+      front-long _ (ap (λ n. s .args .shape .parties * n) (rowed .row-length .ensures)) (omega (arith, room, p .4)),
+      front-long _ (sized .opening-length .ensures) (omega (arith, sized .opening-length .ensures, p .3)),
     )
 
 returns : tie.Need-returns
 returns c =
-    let s = c .before .before .before .before .before .before .before .before .before .before .before .before .before .before .before .before .before .before .before .before .before .before in
+    let done = c .before .before .before .before .before in
+    let sized = done .before .before .before .before in
+    let rowed = sized .before .before in
+    let s = rowed .before .before .before .before .before .before .before .before .before .before .before in
     let d = s .args .out .now in
-    let w = s .args .work .now in
     let p = s .pre in
-    let room = counted (c .before .before .before .before .before .before .before .before .before .before .before) in
-    let size = c .before .before .before .before .before .before .before .before .before .opening-length in
-    let m = c .before .before .before .before .before .make-rows in (
-      front-output (size .result) d (m .ensures)
-          (ap length (sym (m .ensures)) ∙ m .kept .1 .1 .1 .1 .1 .1 .1 .1 .1 .1 .1 .1 .1 .0 ∙ front-long d (size .ensures) (omega (arith, size .ensures, p .3)) ∙ sym (size .ensures)),
-      front-scratch (s .args .shape .parties * c .before .before .before .before .before .before .before .before .before .before .before .row-length .result) w (m .last .1 .1 .1 .1 .1 .1 .1 .1 .1 .1 .1 .1 .0) (omega (arith, room)) (omega (arith, room, p .4))
-          (m .kept .1 .1 .1 .1 .1 .1 .1 .1 .1 .1 .1 .1 .0 ∙ front-long w refl (omega (arith, room, p .4))),
+    let room = counted rowed in
+    let size = sized .opening-length in
+    let m = done .make-rows in
+    let long = m .kept .1 .1 .1 .1 .1 .1 .1 .1 .1 .1 .1 .1 .1 .0 ∙ front-long d (size .ensures) (omega (arith, size .ensures, p .3)) in (
+      front-output (size .result) d (m .ensures) (ap length (sym (m .ensures)) ∙ long ∙ sym (size .ensures)),
+      scratch-front (s .args .shape .parties * rowed .row-length .result) (s .args .work .now) (m .last .1 .1 .1 .1 .1 .1 .1 .1 .1 .1 .1 .1 .0)
+          (omega (arith, room)) (p .4) (m .kept .1 .1 .1 .1 .1 .1 .1 .1 .1 .1 .1 .1 .0),
     )
 
 pub make-spec : {M : Type 1} → statement M
