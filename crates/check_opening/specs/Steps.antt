@@ -5,7 +5,6 @@ use mathlib.Core.List.{List}
 use Prim.Native.Nat.{ℕ, zero, suc, _+_, _<_, _≤_}
 use native.Mathlib.Omega.{arith}
 use lib.Dec.{eqb}
-use lib.ListN.{length, drop}
 use Rattle.slices.specs.Lists.{choose, row, same, sumXor}
 use Rattle.slices.specs.Bytes.{Sized}
 use Rattle.slices.specs.Layout.{total}
@@ -13,7 +12,7 @@ use Rattle.compare.specs.Lowest.{lowest}
 use Rattle.banquet.specs.declared.Shape.{Shape}
 use Rattle.banquet.specs.declared.Answer.{Answer}
 use Rattle.banquet.specs.declared.Answer.the-variants.{ShareDiffers}
-use Rattle.banquet.specs.Shape.{workLength, publicKeyLength, transcriptSizes}
+use Rattle.banquet.specs.Shape.{publicKeyLength, transcriptSizes}
 use Rattle.banquet.specs.Sets.{aesScheme}
 use Rattle.banquet.specs.Answer.{require, each}
 use Rattle.banquet.specs.Opening.{executionOf, secondOf, committedOf, challengeOf, tapeUnder}

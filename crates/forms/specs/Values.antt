@@ -1,11 +1,9 @@
 -- Values of S_j, T_j and P at a point are sums with Lagrange's values there. Assumes nothing.
 use mathlib.Core.Path.{_≡_, refl, sym, ap, ap₂, _∙_}
-use mathlib.Core.Bool.{true, false}
 use mathlib.Core.List.{List}
-use Prim.Native.Nat.{ℕ, zero, suc, _+_, _*_, _^_, _≤_, _<_}
+use Prim.Native.Nat.{ℕ, zero, suc, _+_, _*_, _^_, _≤_}
 use native.Mathlib.Nat.{add-zero, add-suc, mul-comm as nat-mul-comm}
 use native.Mathlib.Omega.{arith}
-use native.Mathlib.Decide.{ℕ-discrete}
 use lib.Bits.{bitXor}
 use lib.Dec.{ltb}
 use lib.ListN.{getD}
@@ -17,11 +15,11 @@ use Rattle.poly.specs.Field.{Ops, BinaryField, mul-assoc}
 use Rattle.poly.specs.Sum.{sum, sum-suc, sum-cong, sum-mul}
 use Rattle.poly.specs.Balance.{valuesS, valuesT, valuesP}
 use Rattle.field.specs.Ring.{mul}
-use Rattle.lagrange.specs.Values.{interpolated, lagrangeValue, sum-interpolated}
-use Rattle.dots.specs.Tables.{tabled, tabled-dot}
+use Rattle.lagrange.specs.Values.{interpolated, sum-interpolated}
+use Rattle.dots.specs.Tables.{tabled-dot}
 use Rattle.banquet.specs.declared.Shape.{Shape}
 use Rattle.banquet.specs.Shape.{sboxAt}
-use Rattle.banquet.specs.Scheme.{wideOps, wideMul, Wide, lifted}
+use Rattle.banquet.specs.Scheme.{wideOps, Wide, lifted}
 use Rattle.banquet.specs.Sets.{aesScheme}
 use Rattle.banquet.specs.Execution.{through}
 use Rattle.theorems.specs.Wide.{wide-field}

@@ -5,7 +5,7 @@ use Prim.Native.Nat.{ℕ, _+_, _*_, _^_, _≤_, _<_}
 use lib.ListN.{length}
 use Rattle.slices.specs.Lists.{tab, rows}
 use Rattle.banquet.specs.declared.Shape.{Shape}
-use Rattle.banquet.specs.Shape.{workLength, firstChallengeLength, openingLength}
+use Rattle.banquet.specs.Shape.{firstChallengeLength}
 use Rattle.banquet.specs.Scheme.{trueInverses}
 use Rattle.banquet.specs.Sets.{aesScheme}
 use Rattle.banquet.specs.Key.{frontOf}

@@ -25,7 +25,7 @@ use Rattle.banquet.specs.declared.Answer.the-variants.{
   ZeroInput,
   WrongKey,
 }
-use Rattle.banquet.specs.Shape.{workLength, publicKeyLength, firstChallengeLength, openingLength}
+use Rattle.banquet.specs.Shape.{publicKeyLength, firstChallengeLength, openingLength}
 use Rattle.banquet.specs.Sets.{aesScheme}
 use Rattle.banquet.specs.Answer.{require, cleared, workAfter, outputAfter}
 use Rattle.banquet.specs.Key.{checkInputs, checkKey, zeroInput, frontOf, ciphertextOf}

@@ -1,5 +1,5 @@
 -- A valid parameter set, with AES and SHAKE128, has the laws that the theorems ask for. Assumes nothing.
-use mathlib.Core.Path.{_≡_, refl, sym, ap₂, subst, subst₂, subst₃, _∙_}
+use mathlib.Core.Path.{_≡_, refl, sym, ap₂, subst, subst₃, _∙_}
 use mathlib.Core.List.{List}
 use Prim.Native.Nat.{ℕ, suc, _*_, _^_, _≤_}
 use native.Mathlib.Omega.{arith}
@@ -23,7 +23,6 @@ use Rattle.circuit.specs.Sound.{IsCircuit}
 use Rattle.circuit.specs.Agree.{aes-circuit}
 use Rattle.banquet.specs.declared.Shape.{Shape}
 use Rattle.banquet.specs.Shape.{sboxes}
-use Rattle.banquet.specs.Scheme.{lifted}
 use Rattle.banquet.specs.Sets.{aesCircuit, aesScheme}
 use Rattle.theorems.specs.Laws.{Laws}
 use Rattle.sets.specs.Valid.{Valid}

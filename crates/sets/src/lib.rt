@@ -1,7 +1,6 @@
 // The sizes that follow from a parameter set.
 use banquet::Shape;
 ghost use mathlib.Core.Path.{_≡_};
-ghost use mathlib.Core.List.{[], _∷_};
 ghost use Prim.Native.Nat.{_*_, _^_};
 ghost use Rattle.banquet.specs.Shape.{tapeSizes, transcriptSizes};
 ghost use Rattle.slices.specs.Layout.{total};

@@ -1,7 +1,7 @@
 -- Offsets from what the steps leave. Assumes nothing.
 use mathlib.Core.Path.{_≡_, ap, ap₂, _∙_}
 use mathlib.Core.List.{List}
-use Prim.Native.Nat.{ℕ, suc, _+_, _*_, _^_, _<_, _≤_}
+use Prim.Native.Nat.{ℕ, _*_, _^_, _<_, _≤_}
 use native.Mathlib.Omega.{arith}
 use lib.Bits.{bitXor}
 use lib.ListN.{length, getD, take}
@@ -17,7 +17,7 @@ use Rattle.banquet.specs.Execution.{tapePart}
 use Rattle.sets.specs.Valid.{Valid}
 use Rattle.sets.specs.Bounds.{by-ten, by-points, tape-most}
 use Rattle.forms.specs.Point.{productValue}
-use Rattle.forms.specs.Offsets.{workedOffset, workedOffsets}
+use Rattle.forms.specs.Offsets.{workedOffsets}
 use Rattle.party.specs.Party.{partyHash}
 
 module _ {S : Shape} (v : Valid S) where

@@ -13,7 +13,7 @@ use Rattle.slices.specs.Bytes.{Sized}
 use Rattle.slices.specs.Layout.{layout}
 use Rattle.shake.specs.Shake128.{shake128}
 use Rattle.shake.specs.Laws.{sized-shake}
-use Rattle.banquet.specs.Tree.{Node, nodeSeeds, seedAt, left, right, leaves, shownLeaves}
+use Rattle.banquet.specs.Tree.{Node, nodeSeeds, seedAt, left, leaves, shownLeaves}
 use Rattle.theorems.specs.Seeds.{length-left, length-right, length-leaves, length-shownLeaves}
 
 -- ---- any nodes

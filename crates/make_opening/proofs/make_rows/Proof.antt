@@ -1,6 +1,5 @@
 -- `make_opening::make_rows` meets its contract. Assumes nothing.
 use mathlib.Core.Path.{refl, sym}
-use Prim.Native.Nat.{_+_, _*_, _^_, _≤_}
 use native.Mathlib.Omega.{arith}
 use borrow.Author.Needs.{needs}
 use Rattle.sets.specs.Bounds.{leaves-most, by-points}

@@ -1,5 +1,5 @@
 -- `open_execution::open_key` meets its contract: the first zero input and the ciphertext are tested, and else the opening is made. Assumes nothing.
-use mathlib.Core.Path.{_≡_, _∙_}
+use mathlib.Core.Path.{_∙_}
 use native.Mathlib.Omega.{arith}
 use borrow.Author.Tests.{not-true, not-false}
 use borrow.Author.Needs.{needs}

@@ -1,10 +1,6 @@
 -- `signer::offsets` meets its contract, with room for the sum. Assumes nothing.
-use mathlib.Core.Path.{ap, _∙_}
-use Prim.Native.Nat.{_^_}
 use native.Mathlib.Omega.{arith}
-use lib.ListN.{length, take}
 use borrow.Author.Needs.{needs}
-use Rattle.slices.specs.Layout.{total}
 use Rattle.sets.specs.Bounds.{tape-most}
 use Rattle.party_shares.proofs.Laws.{front-long}
 use Rattle.signer.proofs.Laws.{sizes-fit, size-is}
