@@ -18,8 +18,8 @@ const BASE: Shape = Shape {
     front: 16,
 };
 
-// Execution e below the root seed is opened: `first` is the first challenge's bytes, `second` the second challenge. Accepted, the output begins with the
-// opening, and the work slice's first 65,536 bytes are zero; refused, both are untouched.
+// Execution e below the root seed is opened: `first` is the first challenge's bytes, `second` the second challenge. Accepted, the output begins
+// with the opening, and the work slice's first 65,536 bytes are zero; refused, both are untouched.
 pub fn open(
     key: &[u8],
     public: &[u8],

@@ -1,5 +1,5 @@
--- The lengths of what a signature's executions have in common: for the points 20 to 40 the rows of the inputs, those of the inverses and Lagrange's value
--- for the extra point.
+-- The lengths of what a signature's executions have in common: for the points 20 to 40 the rows of the inputs, those of the inverses and Lagrange's
+-- value for the extra point.
 use mathlib.Core.Path.{_≡_}
 use mathlib.Core.List.{List}
 use Prim.Native.Nat.{ℕ}

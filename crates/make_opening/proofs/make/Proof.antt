@@ -1,5 +1,5 @@
 -- `make_opening::make` meets its contract. Assumes nothing.
-use mathlib.Core.Path.{sym, ap, _∙_}
+use mathlib.Core.Path.{sym, ap, subst, _∙_}
 use Prim.Native.Nat.{_*_, _≤_}
 use native.Mathlib.Omega.{arith}
 use lib.ListN.{length}
@@ -11,9 +11,16 @@ use Rattle.make_opening.proofs.Laws.{front-output}
 use Rattle.make_opening.proofs.make.Statement.{statement}
 use Rattle.make_opening.proofs.make.Tie as tie
 
--- the rows' count of bytes
-counted : (c : tie.After-row-length) → c .before .before .before .before .before .before .before .before .before .before .before .args .shape .parties * c .row-length .result ≤ 18176
-counted c = rw (c .row-length .ensures) (rows-most (c .before .before .before .before .before .before .before .before .before .before .before .pre .0 .valid))
+-- the rows' count of bytes, and the seeds'
+module _ (c : tie.After-row-length) where
+  abbrev start : tie.Start
+  start = c .before .before .before .before .before .before .before .before .before .before .before
+
+  counted : start .args .shape .parties * c .row-length .result ≤ 18176
+  counted = subst (λ n. start .args .shape .parties * n ≤ 18176) (sym (c .row-length .ensures)) (rows-most (start .pre .0 .valid))
+
+  leaved : c .before .leaf-bytes .result ≤ 2048
+  leaved = omega (arith, c .before .leaf-bytes .ensures, leaves-most (start .pre .0 .valid))
 
 make-rows-requires : tie.Need-make-rows-requires
 make-rows-requires c κs =
@@ -52,6 +59,7 @@ pub make-spec : {M : Type 1} → statement M
 make-spec =
     tie.close
     (tie.spec (λ c κs. search needs) (λ c κs. search needs) (λ c. omega (arith, counted (c .before))) (λ c κs. search needs) (λ c. search needs)
-    (λ c. search needs) (λ c. omega (arith, c .before .before .before .leaf-bytes .ensures, leaves-most (c .before .before .before .before .before .before .before .before .before .before .before .before .before .pre .0 .valid))) (λ c. search needs) (λ c. search needs)
-    (λ c. omega (arith, counted (c .before .before .before), c .before .before .before .before .before .before .before .before .before .before .before .before .before .before .pre .4)) (λ c. search needs) (λ c. search needs)
-    (λ c. omega (arith, c .before .before .opening-length .ensures, c .before .before .before .before .before .before .before .before .before .before .before .before .before .before .before .pre .3)) make-rows-requires (λ c. search needs) (λ c. search needs) returns)
+    (λ c. search needs) (λ c. leaved (c .before .before)) (λ c. search needs) (λ c. search needs)
+    (λ c. let r = c .before .before .before in omega (arith, counted r, start r .pre .4)) (λ c. search needs) (λ c. search needs)
+    (λ c. let z = c .before .before in omega (arith, z .opening-length .ensures, start (z .before .before) .pre .3)) make-rows-requires
+    (λ c. search needs) (λ c. search needs) returns)

@@ -16,7 +16,8 @@ long s = seeds-long (s .pre .0 .valid) (s .args .salt .now) (s .args .root .now)
 
 offsets-requires : tie.Need-offsets-requires
 offsets-requires c κs =
-    let s = c .before .before .before .before .before .before .before .before .before .before .before .before .before .before .before .before .before in
+    let between = c .before .before .before .before .before .before .before .before in
+    let s = between .before .before .before .before .before .before .before .before .before in
     let p = s .pre in
     let v = p .0 .valid in (
       record { valid = v; us-size = ap length (p .3 .us-is); vs-size = ap length (p .3 .vs-is); lasts-size = ap length (p .3 .lasts-is) },
@@ -32,9 +33,11 @@ offsets-requires c κs =
 
 share-rows-requires : tie.Need-share-rows-requires
 share-rows-requires c κs =
-    let s = c .before .before .before .before .before .before .before .before .before .before .before .before .before .before .before .before .before .before .before .before .before .before .before .before .before .before .before in
+    let at-offsets = c .before .before .before .before .before .before .before .before .before in
+    let between = at-offsets .before .before .before .before .before .before .before .before .before in
+    let s = between .before .before .before .before .before .before .before .before .before in
     let p = s .pre in
-    let k = c .before .before .before .before .before .before .before .before .before .offsets .kept in (
+    let k = at-offsets .offsets .kept in (
       p .0 .valid,
       p .0 .salt-size,
       long s,
@@ -49,10 +52,13 @@ share-rows-requires c κs =
 
 write-requires : tie.Need-write-requires
 write-requires c κs =
-    let s = c .before .before .before .before .before .before .before .before .before .before .before .before .before .before .before .before .before .before .before .before .before .before .before .before .before .before .before .before .before .before .before .before .before .before .before in
+    let at-share-rows = c .before .before .before .before .before .before .before in
+    let at-offsets = at-share-rows .before .before .before .before .before .before .before .before .before .before in
+    let between = at-offsets .before .before .before .before .before .before .before .before .before in
+    let s = between .before .before .before .before .before .before .before .before .before in
     let p = s .pre in
     let v = p .0 .valid in
-    let k = c .before .before .before .before .before .before .before .before .before .before .before .before .before .before .before .before .before .offsets .kept in (
+    let k = at-offsets .offsets .kept in (
       v,
       p .0 .salt-size,
       p .0 .root-size,
@@ -62,18 +68,22 @@ write-requires c κs =
       k .1 .1 .1 .1 .1 .1 .1 .1 .1 .1 .1 .0,
       p .0 .first-size,
       k .1 .1 .1 .1 .1 .1 .1 .1 .1 .1 .1 .1 .0 ∙ p .5,
-      c .before .before .before .before .before .before .before .share-rows .kept .1 .1 .1 .1 .1 .1 .1 .1 .1 .1 .0 ∙ p .6,
+      at-share-rows .share-rows .kept .1 .1 .1 .1 .1 .1 .1 .1 .1 .1 .0 ∙ p .6,
       p .7,
     )
 
 returns : tie.Need-returns
 returns c =
-    let s = c .before .before .before .before .before .before .before .before .before .before .before .before .before .before .before .before .before .before .before .before .before .before .before .before .before .before .before .before .before .before .before .before .before .before .before .before .before .before in
+    let at-write = c .before .before in
+    let at-share-rows = at-write .before .before .before .before .before .before .before .before in
+    let at-offsets = at-share-rows .before .before .before .before .before .before .before .before .before .before in
+    let between = at-offsets .before .before .before .before .before .before .before .before .before in
+    let s = between .before .before .before .before .before .before .before .before .before in
     let a = s .args in
     let p = s .pre in
-    let o = c .before .before .before .before .before .before .before .before .before .before .before .before .before .before .before .before .before .before .before .before .offsets .ensures in
+    let o = at-offsets .offsets .ensures in
     opening-made (p .0 .valid) (a .key .now) (a .public .now) (a .salt .now) (a .root .now) (a .first .now) (a .seeds .now) (a .e) (a .second) (a .hidden)
-    (p .0 .root-size) (p .4) (p .2) (p .3) (o .0) (o .1 .0) (o .1 .1) (c .before .before .before .before .before .before .before .before .before .before .share-rows .ensures) (c .before .before .write .ensures)
+    (p .0 .root-size) (p .4) (p .2) (p .3) (o .0) (o .1 .0) (o .1 .1) (at-share-rows .share-rows .ensures) (at-write .write .ensures)
 
 pub make-shares-spec : {M : Type 1} → statement M
 make-shares-spec =

@@ -9,17 +9,27 @@ use Rattle.make_opening.proofs.opening_length.Statement.{statement}
 use Rattle.make_opening.proofs.opening_length.Tie as tie
 
 offset-requires : tie.Need-offset-requires
-offset-requires c κs = sizes-fit (c .before .before .pre) (c .before .transcript-sizes .ensures)
+offset-requires c κs =
+    let at-transcript-sizes = c .before in
+    let s = at-transcript-sizes .before in
+    sizes-fit (s .pre) (at-transcript-sizes .transcript-sizes .ensures)
 
 add-result-2 : tie.Need-add-result-2
 add-result-2 c =
-    let v = c .before .before .before .before .pre in
-    omega (arith, transcript-length v (c .before .before .before .transcript-sizes .ensures) (c .before .offset .ensures), transcript-most v, v .shallow)
+    let at-offset = c .before in
+    let at-transcript-sizes = at-offset .before .before in
+    let s = at-transcript-sizes .before in
+    let v = s .pre in
+    omega (arith, transcript-length v (at-transcript-sizes .transcript-sizes .ensures) (at-offset .offset .ensures), transcript-most v, v .shallow)
 
 returns : tie.Need-returns
 returns c =
-    let s = c .before .before .before .before in
-    ap (λ n. n + (1 + s .args .shape .depth * 16)) (transcript-length (s .pre) (c .before .before .before .transcript-sizes .ensures) (c .before .offset .ensures))
+    let at-offset = c .before in
+    let at-transcript-sizes = at-offset .before .before in
+    let s = at-transcript-sizes .before in
+    ap (λ n. n + (1 + s .args .shape .depth * 16)) (transcript-length (s .pre) (at-transcript-sizes .transcript-sizes .ensures) (at-offset .offset .ensures))
 
 pub opening-length-spec : {M : Type 1} → statement M
-opening-length-spec = tie.close (tie.spec (λ c κs. search needs) (λ c. search needs) offset-requires (λ c. search needs) (λ c. search needs) add-result-2 returns)
+opening-length-spec =
+    tie.close
+    (tie.spec (λ c κs. search needs) (λ c. search needs) offset-requires (λ c. search needs) (λ c. search needs) add-result-2 returns)

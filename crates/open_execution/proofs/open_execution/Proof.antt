@@ -15,64 +15,98 @@ returns c =
 
 returns-2 : tie.Need-returns-2
 returns-2 c =
-    let s = c .before .before .before .before .before .before .before .before .before in
+    let test1 = c .before in
+    let s = test1 .before .before .before .before .before .before .before .before in
     let a = s .args in
     public-refused (s .pre .0) (a .key .now) (a .public .now) (a .salt .now) (a .root .now) (a .first .now) (a .e) (a .second) (a .hidden) (a .out .now) (a .work .now)
-    (c .before .if1 .left) (c .if2 .taken)
+    (test1 .if1 .left) (c .if2 .taken)
 
 returns-3 : tie.Need-returns-3
 returns-3 c =
-    let s = c .before .before .before .before .before .before .before .before .before .before in
+    let test2 = c .before in
+    let test1 = test2 .before in
+    let s = test1 .before .before .before .before .before .before .before .before in
     let a = s .args in
     salt-refused (s .pre .0) (a .key .now) (a .public .now) (a .salt .now) (a .root .now) (a .first .now) (a .e) (a .second) (a .hidden) (a .out .now) (a .work .now)
-    (c .before .before .if1 .left) (c .before .if2 .left) (c .if3 .taken)
+    (test1 .if1 .left) (test2 .if2 .left) (c .if3 .taken)
 
 returns-4 : tie.Need-returns-4
 returns-4 c =
-    let s = c .before .before .before .before .before .before .before .before .before .before .before .before in
+    let test3 = c .before .before in
+    let test2 = test3 .before in
+    let test1 = test2 .before in
+    let s = test1 .before .before .before .before .before .before .before .before in
     let a = s .args in
     first-refused (s .pre .0) (a .key .now) (a .public .now) (a .salt .now) (a .root .now) (a .first .now) (a .e) (a .second) (a .hidden) (a .out .now) (a .work .now)
-    (c .before .before .before .before .if1 .left) (c .before .before .before .if2 .left) (c .before .before .if3 .left) (c .if4 .taken)
+    (test1 .if1 .left) (test2 .if2 .left) (test3 .if3 .left) (c .if4 .taken)
 
 returns-5 : tie.Need-returns-5
 returns-5 c =
-    let s = c .before .before .before .before .before .before .before .before .before .before .before .before .before in
+    let test4 = c .before in
+    let test3 = test4 .before .before in
+    let test2 = test3 .before in
+    let test1 = test2 .before in
+    let s = test1 .before .before .before .before .before .before .before .before in
     let a = s .args in
     root-refused (s .pre .0) (a .key .now) (a .public .now) (a .salt .now) (a .root .now) (a .first .now) (a .e) (a .second) (a .hidden) (a .out .now) (a .work .now)
-    (c .before .before .before .before .before .if1 .left) (c .before .before .before .before .if2 .left) (c .before .before .before .if3 .left) (c .before .if4 .left) (c .if5 .taken)
+    (test1 .if1 .left) (test2 .if2 .left) (test3 .if3 .left) (test4 .if4 .left) (c .if5 .taken)
 
 returns-6 : tie.Need-returns-6
 returns-6 c =
-    let s = c .before .before .before .before .before .before .before .before .before .before .before .before .before .before .before in
+    let at-opening-length = c .before in
+    let test5 = at-opening-length .before in
+    let test4 = test5 .before in
+    let test3 = test4 .before .before in
+    let test2 = test3 .before in
+    let test1 = test2 .before in
+    let s = test1 .before .before .before .before .before .before .before .before in
     let a = s .args in
     output-refused (s .pre .0) (a .key .now) (a .public .now) (a .salt .now) (a .root .now) (a .first .now) (a .e) (a .second) (a .hidden) (a .out .now) (a .work .now)
-    (c .before .before .before .before .before .before .before .if1 .left) (c .before .before .before .before .before .before .if2 .left) (c .before .before .before .before .before .if3 .left) (c .before .before .before .if4 .left) (c .before .before .if5 .left) (omega (arith, c .if6 .taken, c .before .opening-length .ensures))
+    (test1 .if1 .left) (test2 .if2 .left) (test3 .if3 .left) (test4 .if4 .left) (test5 .if5 .left) (omega (arith, c .if6 .taken, at-opening-length .opening-length .ensures))
 
 returns-7 : tie.Need-returns-7
 returns-7 c =
-    let s = c .before .before .before .before .before .before .before .before .before .before .before .before .before .before .before .before in
+    let test6 = c .before in
+    let at-opening-length = test6 .before in
+    let test5 = at-opening-length .before in
+    let test4 = test5 .before in
+    let test3 = test4 .before .before in
+    let test2 = test3 .before in
+    let test1 = test2 .before in
+    let s = test1 .before .before .before .before .before .before .before .before in
     let a = s .args in
     work-refused (s .pre .0) (a .key .now) (a .public .now) (a .salt .now) (a .root .now) (a .first .now) (a .e) (a .second) (a .hidden) (a .out .now) (a .work .now)
-    (c .before .before .before .before .before .before .before .before .if1 .left) (c .before .before .before .before .before .before .before .if2 .left) (c .before .before .before .before .before .before .if3 .left) (c .before .before .before .before .if4 .left) (c .before .before .before .if5 .left)
-    (omega (arith, c .before .if6 .left, c .before .before .opening-length .ensures)) (c .if7 .taken)
+    (test1 .if1 .left) (test2 .if2 .left) (test3 .if3 .left) (test4 .if4 .left) (test5 .if5 .left)
+    (omega (arith, test6 .if6 .left, at-opening-length .opening-length .ensures)) (c .if7 .taken)
 
 mul-if4 : tie.Need-mul-if4
-mul-if4 c = let s = c .before .before .before .before .before .before .before .before .before .before .before in omega (arith, by-ten (s .pre .0) (s .args .shape .wide), s .pre .0 .wide-most)
+mul-if4 c =
+    let s = c .before .before .before .before .before .before .before .before .before .before .before in
+    omega (arith, by-ten (s .pre .0) (s .args .shape .wide), s .pre .0 .wide-most)
 
 open-ranges-requires : tie.Need-open-ranges-requires
 open-ranges-requires c κs =
-    let p = c .before .before .before .before .before .before .before .before .before .before .before .before .before .before .before .before .before .before .pre in (
+    let test7 = c .before .before in
+    let test6 = test7 .before in
+    let at-opening-length = test6 .before in
+    let test5 = at-opening-length .before in
+    let test4 = test5 .before in
+    let test3 = test4 .before .before in
+    let test2 = test3 .before in
+    let test1 = test2 .before in
+    let s = test1 .before .before .before .before .before .before .before .before in
+    let p = s .pre in (
       record {
         valid = p .0;
-        key-size = c .before .before .before .before .before .before .before .before .before .before .if1 .left;
-        public-size = c .before .before .before .before .before .before .before .before .before .if2 .left;
-        salt-size = c .before .before .before .before .before .before .before .before .if3 .left;
-        root-size = c .before .before .before .before .before .if5 .left;
-        first-size = c .before .before .before .before .before .before .if4 .left;
+        key-size = test1 .if1 .left;
+        public-size = test2 .if2 .left;
+        salt-size = test3 .if3 .left;
+        root-size = test5 .if5 .left;
+        first-size = test4 .if4 .left;
       },
       p .1,
-      omega (arith, c .before .before .before .if6 .left, c .before .before .before .before .opening-length .ensures),
-      c .before .before .if7 .left,
+      omega (arith, test6 .if6 .left, at-opening-length .opening-length .ensures),
+      test7 .if7 .left,
     )
 
 pub open-execution-spec : {M : Type 1} → statement M

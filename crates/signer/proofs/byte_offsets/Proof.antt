@@ -9,21 +9,27 @@ use Rattle.signer.proofs.byte_offsets.Tie as tie
 
 offset-of-requires : tie.Need-offset-of-requires
 offset-of-requires c κs =
-    let s = c .before .before .before .before .before .before .before in
-    (s .pre .1 ∙ sym (s .pre .4), part-long (s .pre .0) 0 (s .args .sum .now) (s .pre .3) (c .before .tape-part .ensures) ∙ sym (s .pre .4))
+    let at-tape-part = c .before in
+    let s = at-tape-part .before .before .before .before .before .before in
+    (s .pre .1 ∙ sym (s .pre .4), part-long (s .pre .0) 0 (s .args .sum .now) (s .pre .3) (at-tape-part .tape-part .ensures) ∙ sym (s .pre .4))
 
 offset-of-requires-2 : tie.Need-offset-of-requires-2
 offset-of-requires-2 c κs =
-    let s = c .before .before .before .before .before .before .before .before .before .before .before .before in (
+    let at-tape-part2 = c .before in
+    let s = at-tape-part2 .before .before .before .before .before .before .before .before .before .before .before in (
       s .pre .2 ∙ sym (s .pre .5),
-      part-long (s .pre .0) 1 (s .args .sum .now) (s .pre .3) (c .before .tape-part2 .ensures) ∙ all-sboxes (s .pre .0) ∙ sym (s .pre .5),
+      part-long (s .pre .0) 1 (s .args .sum .now) (s .pre .3) (at-tape-part2 .tape-part2 .ensures) ∙ all-sboxes (s .pre .0) ∙ sym (s .pre .5),
     )
 
 returns : tie.Need-returns
 returns c =
-    let s = c .before .before .before .before .before .before .before .before .before .before .before .before .before .before .before in (
-      c .before .before .before .before .before .before .before .offset-of .ensures ∙ ap (zipXor (s .args .key .now)) (c .before .before .before .before .before .before .before .before .before .tape-part .ensures),
-      c .before .before .offset-of2 .ensures ∙ ap (zipXor (s .args .inverses .now)) (c .before .before .before .before .tape-part2 .ensures),
+    let at-offset-of2 = c .before .before in
+    let at-tape-part2 = at-offset-of2 .before .before in
+    let at-offset-of = at-tape-part2 .before .before .before in
+    let at-tape-part = at-offset-of .before .before in
+    let s = at-tape-part .before .before .before .before .before .before in (
+      at-offset-of .offset-of .ensures ∙ ap (zipXor (s .args .key .now)) (at-tape-part .tape-part .ensures),
+      at-offset-of2 .offset-of2 .ensures ∙ ap (zipXor (s .args .inverses .now)) (at-tape-part2 .tape-part2 .ensures),
     )
 
 pub byte-offsets-spec : {M : Type 1} → statement M

@@ -6,7 +6,11 @@ use Rattle.signer.proofs.offset_of.Statement.{statement}
 use Rattle.signer.proofs.offset_of.Tie as tie
 
 returns : tie.Need-returns
-returns c = c .before .before .xor-into .ensures ∙ ap (λ s. zipXor s (c .before .before .before .before .before .before .before .before .before .before .before .args .shares .now)) (c .before .before .before .before .before .before .copy .ensures)
+returns c =
+    let at-xor-into = c .before .before in
+    let at-copy = at-xor-into .before .before .before .before in
+    let s = at-copy .before .before .before .before .before in
+    at-xor-into .xor-into .ensures ∙ ap (λ t. zipXor t (s .args .shares .now)) (at-copy .copy .ensures)
 
 pub offset-of-spec : {M : Type 1} → statement M
 offset-of-spec =
