@@ -231,7 +231,7 @@ fn check_seeds(
     )
 }
 
-// The same.
+// The same, with room for the seeds.
 fn check_parties(
     shape: Shape,
     public: &[u8],
