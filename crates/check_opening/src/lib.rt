@@ -307,7 +307,7 @@ fn check_ranges(
 }
 
 // The call, which refuses by lengths first.
-pub fn verify_opening(shape: Shape, public: &[u8], opening: &[u8], work: &mut [u8]) -> Answer
+pub fn check(shape: Shape, public: &[u8], opening: &[u8], work: &mut [u8]) -> Answer
     requires { ⌜ Valid shape ⌝ }
     ensures { λ r. ⌜ r ≡ verifyOpening (aesScheme shape) (now (public .entry)) (now (opening .entry)) (now (work .entry)) .answer ⌝ }
     ensures { λ _. ⌜ now (work .exit)

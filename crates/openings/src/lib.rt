@@ -64,5 +64,5 @@ pub fn verify_opening(public: &[u8], opening: &[u8], work: &mut [u8]) -> Answer
     ensures { λ _. ⌜ now (work .exit) ≡ verifyOpening baseScheme (now (public .entry)) (now (opening .entry)) (now (work .entry)) .work ⌝ }
 {
     let shape = BASE;
-    check_opening::verify_opening(shape, public, opening, work)
+    check_opening::check(shape, public, opening, work)
 }

@@ -1,4 +1,4 @@
--- `check_opening::verify_opening` refuses by length, in the call's order, and else checks the opening. Assumes nothing.
+-- `check_opening::check` refuses by length, in the call's order, and else checks the opening. Assumes nothing.
 use mathlib.Core.Path.{_≡_, ap, _∙_}
 use Prim.Native.Nat.{_≤_}
 use native.Mathlib.Omega.{arith}
@@ -8,8 +8,8 @@ use Rattle.slices.specs.Layout.{total}
 use Rattle.banquet.specs.Shape.{transcriptSizes}
 use Rattle.sets.specs.Bounds.{transcript-most}
 use Rattle.check_opening.proofs.Call.{sizes-fit, key-refused, file-refused, work-refused, parts-long, opening-checked}
-use Rattle.check_opening.proofs.verify_opening.Statement.{statement}
-use Rattle.check_opening.proofs.verify_opening.Tie as tie
+use Rattle.check_opening.proofs.check.Statement.{statement}
+use Rattle.check_opening.proofs.check.Tie as tie
 
 returns : tie.Need-returns
 returns c =
@@ -68,8 +68,8 @@ returns-4 c =
     opening-checked (s .pre) (s .args .public .now) (s .args .opening .now) (s .args .work .now) (tested o .if1 .left) (end-is o) (f .if2 .left)
     (w .if3 .left) (r .check-ranges .ensures .0) (r .check-ranges .ensures .1)
 
-pub verify-opening-spec : {M : Type 1} → statement M
-verify-opening-spec =
+pub check-spec : {M : Type 1} → statement M
+check-spec =
     tie.close
     (tie.spec returns (λ c κs. search needs) (λ c. search needs) offset-requires (λ c. omega (arith, end-most c)) (λ c. search needs)
     (λ c. omega (arith, end-most (c .before))) returns-2 returns-3 (λ c. search needs)
