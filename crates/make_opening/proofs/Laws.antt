@@ -1,25 +1,22 @@
 -- Lengths, and parts that are lent and come back. Assumes nothing.
 use mathlib.Core.Path.{_≡_, ap, _∙_}
 use mathlib.Core.List.{List}
-use Prim.Native.Nat.{ℕ, _-_, _*_, _^_, _<_, _≤_}
+use Prim.Native.Nat.{ℕ, _-_, _*_, _^_, _≤_}
 use native.Mathlib.Nat.{mul-le-mul-right}
 use native.Mathlib.Omega.{arith}
-use lib.ListN.{length, take, length-map}
+use lib.ListN.{length, length-map}
 use borrow.Rule.Slice.PartMut.{putMid}
-use Rattle.slices.specs.Layout.{total}
 use Rattle.field.specs.Byte.{inverse8}
 use Rattle.shake.specs.Shake128.{shake128}
 use Rattle.aes.specs.Sizes.{length-sboxInputs}
 use Rattle.banquet.specs.declared.Shape.{Shape}
 use Rattle.banquet.specs.declared.Answer.the-variants.{Accepted}
-use Rattle.banquet.specs.Shape.{transcriptSizes}
 use Rattle.banquet.specs.Sets.{aesScheme}
 use Rattle.banquet.specs.Answer.{outputAfter}
 use Rattle.banquet.specs.Key.{frontOf}
 use Rattle.banquet.specs.Tree.{nodeSeeds, leaves}
 use Rattle.tree.specs.Rows.{length-leaf-seeds}
 use Rattle.sets.specs.Valid.{Valid}
-use Rattle.sets.specs.Bounds.{transcript-most}
 use Rattle.make_opening.specs.Steps.{Inverted}
 
 -- ---- a front that was lent and comes back
@@ -38,14 +35,6 @@ module _ {S : Shape} (v : Valid S) where
   seeds-long salt root e h k =
       let more : parties * 16 ≤ 2 ^ depth * 16 = mul-le-mul-right 16 (v .leaves) in
       omega (arith, more, ap length k, length-leaf-seeds salt e depth 0 root h)
-
-  -- ---- an opening's length, as it is worked out
-
-  pub sizes-fit : {sizes : List ℕ} → sizes ≡ transcriptSizes S → (12 ≤ length sizes) × (total sizes < 2 ^ 63)
-  sizes-fit e = rw e (omega arith, omega (arith, transcript-most v))
-
-  pub transcript-length : {sizes : List ℕ} {n : ℕ} → sizes ≡ transcriptSizes S → n ≡ total (take 12 sizes) → n ≡ total (transcriptSizes S)
-  transcript-length e h = h ∙ ap (λ s. total (take 12 s)) e
 
   -- ---- the S-boxes' inputs and inverses
 

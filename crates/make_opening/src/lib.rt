@@ -1,7 +1,7 @@
 // An opening made by the holder of the key, for any parameter set.
 use banquet::Shape;
 ghost use mathlib.Core.Path.{_≡_};
-ghost use Prim.Native.Nat.{_+_, _*_, _^_, _≤_};
+ghost use Prim.Native.Nat.{_*_, _^_, _≤_};
 ghost use lib.ListN.{length};
 ghost use Rattle.slices.specs.Layout.{total};
 ghost use Rattle.shake.specs.Shake128.{shake128};
@@ -11,7 +11,6 @@ ghost use Rattle.banquet.specs.Sets.{aesScheme};
 ghost use Rattle.banquet.specs.Answer.{outputAfter};
 ghost use Rattle.banquet.specs.Tree.{nodeSeeds, leaves};
 ghost use Rattle.banquet.specs.Opening.{opening};
-ghost use Rattle.sets.specs.Valid.{Valid};
 ghost use Rattle.sets.specs.Bounds.{rowSizes};
 ghost use Rattle.scratch.specs.Scratch.{Scratch};
 ghost use Rattle.make_opening.specs.Steps.{Lengths, Ranges, Inverted, AtPoints};
@@ -173,7 +172,7 @@ pub fn make(
     let mut seeds = [0u8; 2048];
     let end = sets::leaf_bytes(shape);
     let rows = shape.parties * sets::row_length(shape);
-    let size = opening_length(shape);
+    let size = sets::opening_length(shape);
     make_rows(
         shape,
         key,
@@ -190,13 +189,4 @@ pub fn make(
         &mut work[0..rows],
         &mut out[0..size],
     );
-}
-
-// The bytes of an opening.
-pub fn opening_length(shape: Shape) -> usize
-    requires { ⌜ Valid shape ⌝ }
-    ensures { λ r. ⌜ r ≡ openingLength shape ⌝ }
-{
-    let sizes = sets::transcript_sizes(shape);
-    fields::offset(&sizes, 12) + (1 + shape.depth * 16)
 }

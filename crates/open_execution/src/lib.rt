@@ -156,7 +156,7 @@ pub fn open_execution(
     if root.len() != 16 {
         return Answer::SeedLength;
     }
-    if out.len() < make_opening::opening_length(shape) {
+    if out.len() < sets::opening_length(shape) {
         return Answer::FileLength;
     }
     if work.len() < 65536 {

@@ -2,7 +2,7 @@
 use mathlib.Core.Path.{_≡_, refl, sym, ap, ap₂, _∙_}
 use mathlib.Core.Logic.{_≢_}
 use mathlib.Core.List.{List, _++_, append-nil, append-assoc}
-use Prim.Native.Nat.{ℕ, zero, suc, _+_, _-_, _*_, _^_, _<_, _≤_}
+use Prim.Native.Nat.{ℕ, zero, suc, _+_, _-_, _*_, _<_, _≤_}
 use native.Mathlib.Omega.{arith}
 use lib.Bits.{bitXor}
 use lib.ListN.{length, getD, take, drop, length-take, length-drop, drop-of-length-le}
@@ -11,17 +11,14 @@ use borrow.Rule.Slice.PartMut.{putMid}
 use Rattle.slices.specs.Lists.{tab, zipXor, put}
 use Rattle.slices.specs.Tab.{getD-tab, rows-cong}
 use Rattle.slices.specs.Numbers.{bytesOf, numberAt, numbers}
-use Rattle.slices.specs.Layout.{field, total, length-field}
 use Rattle.slices.proofs.Put.{put-mid, length-put, put-pair, wrote-none, wrote-more, wrote-all}
 use Rattle.poly.specs.Index.{at, at-same, at-other, at-cases}
 use Rattle.lagrange.specs.Values.{dotProduct}
 use Rattle.circuit.specs.Circuit.{share, party, inputShares as inputsOf, outputShare as outputOf}
 use Rattle.banquet.specs.declared.Shape.{Shape}
-use Rattle.banquet.specs.Shape.{tapeSizes}
 use Rattle.banquet.specs.Sets.{aesScheme}
 use Rattle.banquet.specs.Execution.{Committed, tapePart, keyShare, inverseShares, inputShares, outputShare}
 use Rattle.sets.specs.Valid.{Valid}
-use Rattle.sets.specs.Bounds.{tape-most}
 use Rattle.forms.specs.Point.{tabledRow, valueS, valueT}
 use Rattle.forms.specs.Party.{committed, own, ownProducts, workedC, workedA, workedB, workedRow}
 
@@ -56,21 +53,6 @@ put-both a k d e h f room = let z : a - 0 ≡ a = omega arith in rw z (put-pair 
 
 module _ {S : Shape} (v : Valid S) where
   open Shape S using (wide, low, m1)
-
-  -- ---- the parts of a tape
-
-  pub sizes-fit : {k : ℕ} {sizes : List ℕ} (t : List ℕ) → sizes ≡ tapeSizes S → k < 4 → length t ≡ total (tapeSizes S)
-      → (k < length sizes) × (total sizes ≤ length t) × (total sizes < 2 ^ 63)
-  sizes-fit t e h l = rw e (h, omega arith, omega (arith, tape-most v))
-
-  pub part-is : (k : ℕ) (t : List ℕ) {sizes r : List ℕ} → sizes ≡ tapeSizes S → r ≡ field sizes k t → r ≡ tapePart (aesScheme S) k t
-  unfolding tapePart
-  part-is k t e h = h ∙ ap (λ s. field s k t) e
-
-  pub part-long : (k : ℕ) (t : List ℕ) {r : List ℕ} → length t ≡ total (tapeSizes S) → r ≡ tapePart (aesScheme S) k t
-      → length r ≡ getD (tapeSizes S) k 0
-  unfolding tapePart
-  part-long k t l h = ap length h ∙ length-field (tapeSizes S) k t l
 
   -- ---- numbers that are loaded and stored
 

@@ -1,7 +1,7 @@
 // A party's shares: from its tape those of the output, of c, a and b.
 use banquet::Shape;
 ghost use mathlib.Core.Path.{_≡_};
-ghost use Prim.Native.Nat.{_+_, _*_, _<_};
+ghost use Prim.Native.Nat.{_+_, _*_};
 ghost use mathlib.Core.List.{_++_};
 ghost use lib.ListN.{length, getD};
 ghost use Rattle.slices.specs.Layout.{total};
@@ -9,7 +9,7 @@ ghost use Rattle.slices.specs.Numbers.{numbers};
 ghost use Rattle.poly.specs.Index.{at};
 ghost use Rattle.banquet.specs.Shape.{tapeSizes, productPoints};
 ghost use Rattle.banquet.specs.Sets.{aesScheme};
-ghost use Rattle.banquet.specs.Execution.{tapePart, inverseShares, inputShares, outputShare};
+ghost use Rattle.banquet.specs.Execution.{inverseShares, inputShares, outputShare};
 ghost use Rattle.sets.specs.Valid.{Valid};
 ghost use Rattle.sets.specs.Bounds.{rowSizes};
 ghost use Rattle.forms.specs.Point.{tabledRow, valueS, valueT};
@@ -35,15 +35,6 @@ fn one(i: usize) -> u8
     if i == 0 { 1 } else { 0 }
 }
 
-// Part k of a tape: the share of the key, the shares of the inverses, the extra points, the shares of products.
-pub fn tape_part<'a>(shape: Shape, k: usize, tape: &'a [u8]) -> &'a [u8]
-    requires { ⌜ Valid shape × (k < 4) × (length (now tape) ≡ total (tapeSizes shape)) ⌝ }
-    ensures { λ r. ⌜ now r ≡ tapePart (aesScheme shape) k (now (tape .entry)) ⌝ }
-{
-    let sizes = sets::tape_sizes(shape);
-    fields::field(&sizes, k, tape)
-}
-
 // The output's share, and the shares of the inverses and of the S-boxes' inputs.
 fn walk(
     shape: Shape,
@@ -65,8 +56,8 @@ fn walk(
         ≡ inputShares (aesScheme shape) (committed (now (front .entry)) (now (key .entry)) (now (inverse .entry))) i (now (tape .entry)) ⌝ }
 {
     let mut share = [0u8; 16];
-    own(i, tape_part(shape, 0, tape), key, &mut share);
-    own(i, tape_part(shape, 1, tape), inverse, inverses);
+    own(i, tapes::tape_part(shape, 0, tape), key, &mut share);
+    own(i, tapes::tape_part(shape, 1, tape), inverse, inverses);
     shares::aes_circuit(one(i), &share, front, inverses, inputs)
 }
 
@@ -83,7 +74,7 @@ fn products(
         × (length (now scratch) ≡ productPoints shape * shape .wide) × (length (now out) ≡ 21) ⌝ }
     ensures { λ _. ⌜ now (out .exit) ≡ ownProducts shape (now (product .entry)) i (now (tape .entry)) ⌝ }
 {
-    own(i, tape_part(shape, 3, tape), product, scratch);
+    own(i, tapes::tape_part(shape, 3, tape), product, scratch);
     elements::load(shape.wide, scratch, out);
 }
 
@@ -162,7 +153,7 @@ fn opened_row(
         (now (inverses .entry))) ⌝ }
 {
     let mut extra = [0u64; 20];
-    elements::load(shape.wide, tape_part(shape, 2, tape), &mut extra);
+    elements::load(shape.wide, tapes::tape_part(shape, 2, tape), &mut extra);
     let half = 10 * shape.wide;
     let whole = out.len();
     opened_a(

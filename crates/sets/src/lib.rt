@@ -2,7 +2,7 @@
 use banquet::Shape;
 ghost use mathlib.Core.Path.{_≡_};
 ghost use Prim.Native.Nat.{_*_, _^_};
-ghost use Rattle.banquet.specs.Shape.{tapeSizes, transcriptSizes};
+ghost use Rattle.banquet.specs.Shape.{tapeSizes, transcriptSizes, openingLength};
 ghost use Rattle.slices.specs.Layout.{total};
 ghost use Rattle.sets.specs.Valid.{Valid};
 ghost use Rattle.sets.specs.Bounds.{rowSizes};
@@ -65,4 +65,13 @@ pub fn row_length(shape: Shape) -> usize
 {
     let row = shape.m1 * shape.wide;
     16 + shape.wide + 2 * row
+}
+
+// The bytes of an opening.
+pub fn opening_length(shape: Shape) -> usize
+    requires { ⌜ Valid shape ⌝ }
+    ensures { λ r. ⌜ r ≡ openingLength shape ⌝ }
+{
+    let sizes = transcript_sizes(shape);
+    fields::offset(&sizes, 12) + (1 + shape.depth * 16)
 }

@@ -36,8 +36,8 @@ fn byte_offsets(
     ensures { λ _. ⌜ now (offset .exit) ≡ zipXor (now (key .entry)) (tapePart (aesScheme shape) 0 (now (sum .entry))) ⌝ }
     ensures { λ _. ⌜ now (inverse .exit) ≡ zipXor (now (inverses .entry)) (tapePart (aesScheme shape) 1 (now (sum .entry))) ⌝ }
 {
-    offset_of(key, party_shares::tape_part(shape, 0, sum), offset);
-    offset_of(inverses, party_shares::tape_part(shape, 1, sum), inverse);
+    offset_of(key, tapes::tape_part(shape, 0, sum), offset);
+    offset_of(inverses, tapes::tape_part(shape, 1, sum), inverse);
 }
 
 // The product offsets, from the rows and Lagrange's values at the points 20 to 40.
@@ -58,17 +58,9 @@ fn wide_offsets(
     let mut draws = [0u64; 10];
     elements::load(shape.wide, first, &mut draws);
     let mut extra = [0u64; 20];
-    elements::load(
-        shape.wide,
-        party_shares::tape_part(shape, 2, sum),
-        &mut extra,
-    );
+    elements::load(shape.wide, tapes::tape_part(shape, 2, sum), &mut extra);
     let mut shares = [0u64; 21];
-    elements::load(
-        shape.wide,
-        party_shares::tape_part(shape, 3, sum),
-        &mut shares,
-    );
+    elements::load(shape.wide, tapes::tape_part(shape, 3, sum), &mut shares);
     let mut values = [0u64; 21];
     offsets::products(shape, &draws, &extra, &shares, us, vs, lasts, &mut values);
     elements::store(shape.wide, &values, out);

@@ -1,37 +1,12 @@
--- Parts of rows, and a slice written part by part, each lent to a call. Assumes nothing.
-use mathlib.Core.Path.{_≡_, refl, sym, ap, subst, _∙_}
+-- A slice written part by part, each lent to a call. Assumes nothing.
+use mathlib.Core.Path.{_≡_, sym, ap, subst, _∙_}
 use mathlib.Core.List.{List, [], _∷_, _++_, append-nil, append-assoc}
-use Prim.Native.Nat.{ℕ, zero, suc, _+_, _-_, _*_, _≤_, _<_}
+use Prim.Native.Nat.{ℕ, suc, _+_, _-_, _≤_, _<_}
 use native.Mathlib.Omega.{arith}
-use lib.ListN.{length, take, drop, set, length-append, length-take, length-drop, length-set, drop-of-length-le}
-use lib.Seq.{take-take, drop-drop, drop-at, set-split, length-take-le}
+use lib.ListN.{length, take, drop, set, length-append, length-drop, length-set, drop-of-length-le}
+use lib.Seq.{drop-at, set-split, length-take-le}
 use borrow.Rule.Slice.PartMut.{putMid, same-len-mid}
-use Rattle.slices.specs.Lists.{row, part}
 use Rattle.slices.proofs.Put.{Wrote, front, wrote-more, wrote-all, put-mid}
-
--- ---- of row i the len elements from index at on
-
--- a part of a front
-part-take : (at len n : ℕ) (s : List ℕ) → at + len ≤ n → part at len (take n s) ≡ part at len s
-part-take zero len n s h = take-take len n s (omega arith)
-part-take (suc at) len zero s h = absurd (omega arith)
-part-take (suc at) len (suc n) [] h = refl
-part-take (suc at) len (suc n) (x ∷ s) h = part-take at len n s (omega arith)
-
--- a part of a part
-part-part : (at len from n : ℕ) (s : List ℕ) → at + len ≤ n → part at len (part from n s) ≡ part (from + at) len s
-part-part at len from n s h = part-take at len n (drop from s) h ∙ ap (take len) (drop-drop at from s)
-
--- what the code writes `&s[i * stride + at..i * stride + at + len]`
-pub cell-cut : (stride at len i : ℕ) (s : List ℕ) → at + len ≤ stride
-    → take (i * stride + at + len - (i * stride + at)) (drop (i * stride + at) s) ≡ part at len (row stride i s)
-cell-cut stride at len i s h =
-    let e : i * stride + at + len - (i * stride + at) ≡ len = omega arith in
-    rw e (sym (part-part at len (i * stride) stride s h))
-
-pub cell-long : (stride at len i : ℕ) (s : List ℕ) → i * stride + at + len ≤ length s
-    → length (take (i * stride + at + len - (i * stride + at)) (drop (i * stride + at) s)) ≡ len
-cell-long stride at len i s h = simp (length-take, length-drop) (omega arith)
 
 -- ---- the first n elements are written, and the part up to m is lent
 

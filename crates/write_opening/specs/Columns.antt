@@ -15,7 +15,8 @@ use Rattle.banquet.specs.Sets.{aesScheme}
 use Rattle.banquet.specs.Execution.{Committed, Challenge, outputShare, openedC, openedA, openedB}
 use Rattle.sets.specs.Bounds.{rowSizes}
 use Rattle.forms.specs.Party.{shareRow}
-use Rattle.write_opening.specs.Written.{columnOf, outputs, opened}
+use Rattle.columns.specs.Column.{columnOf}
+use Rattle.write_opening.specs.Written.{outputs, opened}
 
 -- ---- l is four lists, one after the other
 

@@ -1,18 +1,15 @@
 -- An opening's parts as they are written, from rows that hold each party's shares of the output, of c, a and b. Assumes nothing.
 use mathlib.Core.List.{List, _∷_, _++_}
 use Prim.Native.Nat.{ℕ, _+_, _*_}
-use Rattle.slices.specs.Lists.{rows, row, part}
+use Rattle.slices.specs.Lists.{rows, row}
 use Rattle.slices.specs.Layout.{total}
 use Rattle.slices.specs.Numbers.{bytesOf}
 use Rattle.banquet.specs.declared.Shape.{Shape}
 use Rattle.banquet.specs.Sets.{aesScheme}
 use Rattle.banquet.specs.Hash.{commitment}
 use Rattle.banquet.specs.Tree.{siblingSeeds}
+use Rattle.columns.specs.Column.{columnOf}
 use Rattle.sets.specs.Bounds.{rowSizes}
-
--- of each of n rows the len elements from index at on
-abbrev pub columnOf : ℕ → ℕ → ℕ → ℕ → List ℕ → List ℕ
-columnOf n stride at len s = rows (λ i. part at len (row stride i s)) n
 
 module _ (S : Shape) where
   open Shape S using (parties, depth, wide, m1)

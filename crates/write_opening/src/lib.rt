@@ -10,19 +10,7 @@ ghost use Rattle.banquet.specs.Shape.{firstChallengeLength, productPoints, open
 ghost use Rattle.banquet.specs.Tree.{siblingSeeds};
 ghost use Rattle.sets.specs.Valid.{Valid};
 ghost use Rattle.sets.specs.Bounds.{rowSizes};
-ghost use Rattle.write_opening.specs.Written.{columnOf, head, middle, opened, written};
-
-// Of each of n rows the len bytes from index at on.
-fn column(n: usize, stride: usize, at: usize, len: usize, rows: &[u8], out: &mut [u8])
-    requires { ⌜ (length (now rows) ≡ n * stride) × (at + len ≤ stride) × (length (now out) ≡ n * len) ⌝ }
-    ensures { λ _. ⌜ now (out .exit) ≡ columnOf n stride at len (now (rows .entry)) ⌝ }
-{
-    for i in 0..n {
-        let a = i * stride + at;
-        let b = a + len;
-        slices::copy_at(out, i * len, &rows[a..b]);
-    }
-}
+ghost use Rattle.write_opening.specs.Written.{head, middle, opened, written};
 
 // "salt 32, e 1, commitments 512"
 fn write_head(shape: Shape, salt: &[u8], e: u8, seeds: &[u8], out: &mut [u8])
@@ -74,9 +62,9 @@ fn write_opened(shape: Shape, rows: &[u8], out: &mut [u8])
     let a = n * wide;
     let b = a + n * row;
     let end = out.len();
-    column(n, stride, 16, wide, rows, &mut out[0..a]);
-    column(n, stride, 16 + wide, row, rows, &mut out[a..b]);
-    column(n, stride, 16 + wide + row, row, rows, &mut out[b..end]);
+    columns::column(n, stride, 16, wide, rows, &mut out[0..a]);
+    columns::column(n, stride, 16 + wide, row, rows, &mut out[a..b]);
+    columns::column(n, stride, 16 + wide + row, row, rows, &mut out[b..end]);
 }
 
 // "hidden party 1, sibling seeds 64"
@@ -123,7 +111,7 @@ pub fn write(
     let d = fields::offset(&sizes, 12);
     let end = out.len();
     write_head(shape, salt, e, seeds, &mut out[0..a]);
-    column(shape.parties, stride, 0, 16, rows, &mut out[a..b]);
+    columns::column(shape.parties, stride, 0, 16, rows, &mut out[a..b]);
     write_middle(shape, key, inverse, first, product, second, &mut out[b..c]);
     write_opened(shape, rows, &mut out[c..d]);
     write_tail(shape, salt, e, root, hidden, &mut out[d..end]);

@@ -2,7 +2,8 @@
 use mathlib.Core.Path.{sym, _∙_}
 use borrow.Author.Needs.{needs}
 use Rattle.sets.specs.Bounds.{all-sboxes}
-use Rattle.party_shares.proofs.Laws.{part-long, one-small, walked}
+use Rattle.tapes.proofs.Laws.{part-long}
+use Rattle.party_shares.proofs.Laws.{one-small, walked}
 use Rattle.party_shares.proofs.walk.Statement.{statement}
 use Rattle.party_shares.proofs.walk.Tie as tie
 

@@ -3,7 +3,7 @@ use mathlib.Core.Path.{sym, ap, _∙_}
 use borrow.Author.Needs.{needs}
 use Rattle.slices.specs.Lists.{zipXor}
 use Rattle.sets.specs.Bounds.{all-sboxes}
-use Rattle.party_shares.proofs.Laws.{part-long}
+use Rattle.tapes.proofs.Laws.{part-long}
 use Rattle.signer.proofs.byte_offsets.Statement.{statement}
 use Rattle.signer.proofs.byte_offsets.Tie as tie
 

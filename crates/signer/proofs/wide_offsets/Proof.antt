@@ -2,7 +2,8 @@
 use mathlib.Core.Path.{refl, ap}
 use lib.ListN.{length}
 use borrow.Author.Needs.{needs}
-use Rattle.party_shares.proofs.Laws.{part-long, load-fits}
+use Rattle.tapes.proofs.Laws.{part-long}
+use Rattle.party_shares.proofs.Laws.{load-fits}
 use Rattle.signer.proofs.Laws.{offsets-worked, first-long, extra-long, products-long, store-fits}
 use Rattle.signer.proofs.wide_offsets.Statement.{statement}
 use Rattle.signer.proofs.wide_offsets.Tie as tie

@@ -9,7 +9,7 @@ use borrow.Rule.Slice.PartMut.{putMid}
 use Rattle.slices.specs.Layout.{total}
 use Rattle.slices.proofs.Put.{Wrote, wrote-none}
 use Rattle.sets.specs.Bounds.{rowSizes, by-ten}
-use Rattle.write_opening.specs.Written.{columnOf}
+use Rattle.columns.specs.Column.{columnOf}
 use Rattle.write_opening.proofs.Laws.{lent-long, wrote-lent, wrote-whole}
 use Rattle.write_opening.proofs.write_opened.Statement.{statement}
 use Rattle.write_opening.proofs.write_opened.Tie as tie

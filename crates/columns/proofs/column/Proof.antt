@@ -1,4 +1,4 @@
--- `write_opening::column` meets its contract: after i turns the parts of the first i rows are written. Assumes nothing.
+-- `columns::column` meets its contract: after i turns the parts of the first i rows are written. Assumes nothing.
 use mathlib.Core.Path.{_≡_}
 use Prim.Native.Nat.{ℕ, _+_, _-_, _*_, _≤_}
 use native.Mathlib.Omega.{arith}
@@ -6,9 +6,9 @@ use lib.ListN.{length}
 use borrow.Author.Needs.{needs}
 use Rattle.slices.specs.Lists.{row, part}
 use Rattle.slices.proofs.Rows.{Stacking, stacking-none, stacking-more, stacking-all, row-fits}
-use Rattle.write_opening.proofs.Laws.{cell-cut, cell-long}
-use Rattle.write_opening.proofs.column.Statement.{statement}
-use Rattle.write_opening.proofs.column.Tie as tie
+use Rattle.columns.proofs.Laws.{cell-cut, cell-long}
+use Rattle.columns.proofs.column.Statement.{statement}
+use Rattle.columns.proofs.column.Tie as tie
 
 abbrev Inv-loop : tie.InvT-loop
 Inv-loop n stride at len rows out₀ i₀ out i =

@@ -1,12 +1,24 @@
--- `make_opening::opening_length` meets its contract. Assumes nothing.
-use mathlib.Core.Path.{ap}
-use Prim.Native.Nat.{_+_, _*_}
+-- `sets::opening_length` meets its contract. Assumes nothing.
+use mathlib.Core.Path.{_≡_, ap, _∙_}
+use mathlib.Core.List.{List}
+use Prim.Native.Nat.{ℕ, _+_, _*_, _^_, _≤_, _<_}
 use native.Mathlib.Omega.{arith}
+use lib.ListN.{length, take}
 use borrow.Author.Needs.{needs}
+use Rattle.slices.specs.Layout.{total}
+use Rattle.banquet.specs.declared.Shape.{Shape}
+use Rattle.banquet.specs.Shape.{transcriptSizes}
+use Rattle.sets.specs.Valid.{Valid}
 use Rattle.sets.specs.Bounds.{transcript-most}
-use Rattle.make_opening.proofs.Laws.{sizes-fit, transcript-length}
-use Rattle.make_opening.proofs.opening_length.Statement.{statement}
-use Rattle.make_opening.proofs.opening_length.Tie as tie
+use Rattle.sets.proofs.opening_length.Statement.{statement}
+use Rattle.sets.proofs.opening_length.Tie as tie
+
+module _ {S : Shape} (v : Valid S) {sizes : List ℕ} (e : sizes ≡ transcriptSizes S) where
+  sizes-fit : (12 ≤ length sizes) × (total sizes < 2 ^ 63)
+  sizes-fit = rw e (omega arith, omega (arith, transcript-most v))
+
+  transcript-length : {n : ℕ} → n ≡ total (take 12 sizes) → n ≡ total (transcriptSizes S)
+  transcript-length h = h ∙ ap (λ s. total (take 12 s)) e
 
 offset-requires : tie.Need-offset-requires
 offset-requires c κs =

@@ -1,8 +1,8 @@
--- `party_shares::tape_part` meets its contract. Assumes nothing.
+-- `tapes::tape_part` meets its contract. Assumes nothing.
 use borrow.Author.Needs.{needs}
-use Rattle.party_shares.proofs.Laws.{sizes-fit, part-is}
-use Rattle.party_shares.proofs.tape_part.Statement.{statement}
-use Rattle.party_shares.proofs.tape_part.Tie as tie
+use Rattle.tapes.proofs.Laws.{sizes-fit, part-is}
+use Rattle.tapes.proofs.tape_part.Statement.{statement}
+use Rattle.tapes.proofs.tape_part.Tie as tie
 
 field-requires : tie.Need-field-requires
 field-requires c κs =

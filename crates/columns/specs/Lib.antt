@@ -1,0 +1,2 @@
+-- A column of rows.
+pub mod Column

@@ -1,0 +1,2 @@
+-- What a part of a tape is, and how long.
+pub mod Laws
