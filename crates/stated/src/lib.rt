@@ -78,7 +78,7 @@ pub fn check_sums(shape: Shape, ciphertext: &[u8], e: u8, rows: &[u8], sums: &mu
     ensures { λ r. ⌜ r
         ≡ sumsAnswer shape (now (ciphertext .entry)) e (sumXor (shape .parties) (λ i. row (total (rowSizes shape)) i (now (rows .entry)))) ⌝ }
 {
-    party::sum_rows(shape.parties, rows, sums);
+    row_sums::sum_rows(shape.parties, rows, sums);
     if !slices::equal(&sums[0..16], ciphertext) {
         return Answer::ShareDiffers(shape.parties as u8);
     }
