@@ -105,7 +105,7 @@ fn compare_rows(
         return Answer::ShareDiffers(found as u8);
     }
     let mut sums = [0u8; 142];
-    stated::check_sums(shape, ciphertext, e, stated, &mut sums[0..len])
+    sum_check::check_sums(shape, ciphertext, e, stated, &mut sums[0..len])
 }
 
 // Numbers 14 and 15, with scratch for the stated rows and those worked out.

@@ -140,9 +140,9 @@ pub fn share_rows(
 {
     let bits = (8 * shape.wide) as u32;
     let mut tables = [0u64; 640];
-    let last = opened::tables(shape, second, &mut tables);
+    let last = points::tables(shape, second, &mut tables);
     let mut far = [0u64; 41];
-    opened::far_values(shape, second, &mut far);
+    points::far_values(shape, second, &mut far);
     let mut draws = [0u64; 10];
     elements::load(shape.wide, first, &mut draws);
     let given = gf::mul(

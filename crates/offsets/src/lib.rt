@@ -25,7 +25,7 @@ fn point_rows(
     ensures { λ _. ⌜ now (v .exit) ≡ tab (λ j. rowAt shape (now (inverses .entry)) j x) 10 ⌝ }
 {
     let mut tables = [0u64; 640];
-    let last = opened::tables(shape, x, &mut tables);
+    let last = points::tables(shape, x, &mut tables);
     opened::rows(shape, inputs, &tables, u);
     opened::rows(shape, inverses, &tables, v);
     last

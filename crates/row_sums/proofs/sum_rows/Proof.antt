@@ -1,4 +1,4 @@
--- `party::sum_rows` meets its contract: after j turns the sum of the first j rows is there. Assumes nothing.
+-- `row_sums::sum_rows` meets its contract: after j turns the sum of the first j rows is there. Assumes nothing.
 use mathlib.Core.Path.{sym, ap, _∙_}
 use Prim.Native.Nat.{ℕ, _≤_, _+_, _-_, _*_}
 use native.Mathlib.Omega.{arith}
@@ -6,9 +6,10 @@ use lib.ListN.{length, length-take, length-drop}
 use borrow.Author.Needs.{needs}
 use Rattle.slices.specs.Lists.{row}
 use Rattle.slices.proofs.Rows.{row-fits, row-long}
-use Rattle.party.proofs.Laws.{row-cut, Summing, summing-none, summing-more, summing-all}
-use Rattle.party.proofs.sum_rows.Statement.{statement}
-use Rattle.party.proofs.sum_rows.Tie as tie
+use Rattle.party.proofs.Laws.{row-cut}
+use Rattle.row_sums.proofs.Laws.{Summing, summing-none, summing-more, summing-all}
+use Rattle.row_sums.proofs.sum_rows.Statement.{statement}
+use Rattle.row_sums.proofs.sum_rows.Tie as tie
 
 abbrev Inv-loop : tie.InvT-loop
 Inv-loop n rows out₀ len j₀ out j = (j ≤ n) × Summing (λ j. row len j rows) len j out

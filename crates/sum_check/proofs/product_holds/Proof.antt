@@ -1,13 +1,13 @@
--- `stated::product_holds` meets its contract. Assumes nothing.
+-- `sum_check::product_holds` meets its contract. Assumes nothing.
 use mathlib.Core.Path.{refl, ap, _∙_}
 use native.Mathlib.Omega.{arith}
 use borrow.Author.Needs.{needs}
 use Rattle.slices.specs.Lists.{tab}
 use Rattle.slices.specs.Numbers.{numberAt}
 use Rattle.sets.specs.Laws.{wide-field}
-use Rattle.stated.proofs.Laws.{shares-fit, tens-fit, product-right}
-use Rattle.stated.proofs.product_holds.Statement.{statement}
-use Rattle.stated.proofs.product_holds.Tie as tie
+use Rattle.sum_check.proofs.Laws.{shares-fit, tens-fit, product-right}
+use Rattle.sum_check.proofs.product_holds.Statement.{statement}
+use Rattle.sum_check.proofs.product_holds.Tie as tie
 
 -- ---- the sizes at each place
 

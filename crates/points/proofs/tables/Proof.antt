@@ -1,11 +1,11 @@
--- `opened::tables` meets its contract. Assumes nothing.
+-- `points::tables` meets its contract. Assumes nothing.
 use mathlib.Core.Path.{ap, _∙_}
 use lib.ListN.{length, getD}
 use borrow.Author.Needs.{needs}
 use Rattle.sets.specs.Laws.{wide-field}
-use Rattle.opened.proofs.Laws.{tables-right}
-use Rattle.opened.proofs.tables.Statement.{statement}
-use Rattle.opened.proofs.tables.Tie as tie
+use Rattle.points.proofs.Laws.{tables-right}
+use Rattle.points.proofs.tables.Statement.{statement}
+use Rattle.points.proofs.tables.Tie as tie
 
 tables-requires : tie.Need-tables-requires
 tables-requires c κs =

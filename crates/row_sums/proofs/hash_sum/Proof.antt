@@ -1,4 +1,4 @@
--- `party::hash_sum` meets its contract: after i turns the sum of the first i hashes is there. Assumes nothing.
+-- `row_sums::hash_sum` meets its contract: after i turns the sum of the first i hashes is there. Assumes nothing.
 use mathlib.Core.Path.{_≡_, refl, _∙_}
 use Prim.Native.Nat.{_≤_, _-_}
 use native.Mathlib.Omega.{arith}
@@ -6,10 +6,11 @@ use lib.ListN.{length}
 use borrow.Author.Needs.{needs}
 use borrow.Rule.Slice.PartMut.{same-len-mid}
 use Rattle.slices.specs.Lists.{row}
 use Rattle.party.specs.Party.{partyHash}
-use Rattle.party.proofs.Laws.{row-hashed, length-hash, Summing, summing-none, summing-more, summing-all}
-use Rattle.party.proofs.hash_sum.Statement.{statement}
-use Rattle.party.proofs.hash_sum.Tie as tie
+use Rattle.party.proofs.Laws.{row-hashed, length-hash}
+use Rattle.row_sums.proofs.Laws.{Summing, summing-none, summing-more, summing-all}
+use Rattle.row_sums.proofs.hash_sum.Statement.{statement}
+use Rattle.row_sums.proofs.hash_sum.Tie as tie
 
 abbrev Inv-loop : tie.InvT-loop
 Inv-loop tag salt e n seeds out₀ len scratch₀ i₀ out scratch i =

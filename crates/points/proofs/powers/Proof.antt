@@ -1,8 +1,8 @@
--- `opened::powers` meets its contract: the field is one of two. Assumes nothing.
+-- `points::powers` meets its contract: the field is one of two. Assumes nothing.
 use borrow.Author.Needs.{needs}
-use Rattle.opened.proofs.Laws.{powers-32, powers-48}
-use Rattle.opened.proofs.powers.Statement.{statement}
-use Rattle.opened.proofs.powers.Tie as tie
+use Rattle.points.proofs.Laws.{powers-32, powers-48}
+use Rattle.points.proofs.powers.Statement.{statement}
+use Rattle.points.proofs.powers.Tie as tie
 
 returns : tie.Need-returns
 returns c =

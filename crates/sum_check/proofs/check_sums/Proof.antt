@@ -1,10 +1,10 @@
--- `stated::check_sums` meets its contract: the outputs are tested first, then the product. Assumes nothing.
+-- `sum_check::check_sums` meets its contract: the outputs are tested first, then the product. Assumes nothing.
 use mathlib.Core.Path.{sym, ap, _∙_}
 use Prim.Native.Nat.{_*_}
 use borrow.Author.Needs.{needs}
-use Rattle.stated.proofs.Laws.{outputs-miss, product-misses, both-hold}
-use Rattle.stated.proofs.check_sums.Statement.{statement}
-use Rattle.stated.proofs.check_sums.Tie as tie
+use Rattle.sum_check.proofs.Laws.{outputs-miss, product-misses, both-hold}
+use Rattle.sum_check.proofs.check_sums.Statement.{statement}
+use Rattle.sum_check.proofs.check_sums.Tie as tie
 
 sum-rows-requires : tie.Need-sum-rows-requires
 sum-rows-requires c κs =

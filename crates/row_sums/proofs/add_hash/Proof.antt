@@ -1,7 +1,7 @@
--- `party::add_hash` meets its contract: the scratch holds the hash, which is added. Assumes nothing.
+-- `row_sums::add_hash` meets its contract: the scratch holds the hash, which is added. Assumes nothing.
 use borrow.Author.Needs.{needs}
-use Rattle.party.proofs.add_hash.Statement.{statement}
-use Rattle.party.proofs.add_hash.Tie as tie
+use Rattle.row_sums.proofs.add_hash.Statement.{statement}
+use Rattle.row_sums.proofs.add_hash.Tie as tie
 
 returns : tie.Need-returns
 returns c =

@@ -1,0 +1,42 @@
+// The end of an opening's check, which looks at the sum of the stated rows alone.
+use banquet::Answer;
+use banquet::Shape;
+ghost use mathlib.Core.Path.{_≡_};
+ghost use Prim.Native.Nat.{_*_};
+ghost use lib.ListN.{length};
+ghost use Rattle.slices.specs.Lists.{row, sumXor};
+ghost use Rattle.slices.specs.Layout.{total};
+ghost use Rattle.sets.specs.Valid.{Valid};
+ghost use Rattle.sets.specs.Bounds.{rowSizes};
+ghost use Rattle.forms.specs.Sums.{rowProductHolds, sumsAnswer};
+
+// c is the sum of a_j times b_j, of w bytes each, one after the other.
+fn product_holds(shape: Shape, sums: &[u8]) -> bool
+    requires { ⌜ Valid shape × (length (now sums) ≡ total (rowSizes shape)) ⌝ }
+    ensures { λ r. ⌜ r ≡ rowProductHolds shape (now (sums .entry)) ⌝ }
+{
+    let sizes = sets::row_sizes(shape);
+    let bits = (8 * shape.wide) as u32;
+    let c = numbers::load(sums, 16, shape.wide);
+    let mut a = [0u64; 10];
+    elements::load(shape.wide, fields::field(&sizes, 2, sums), &mut a);
+    let mut b = [0u64; 10];
+    elements::load(shape.wide, fields::field(&sizes, 3, sums), &mut b);
+    c == dots::dot(bits, shape.low, &b, &a)
+}
+
+// The end of the check: the sum of the output shares is the ciphertext, and the product holds.
+pub fn check_sums(shape: Shape, ciphertext: &[u8], e: u8, rows: &[u8], sums: &mut [u8]) -> Answer
+    requires { ⌜ Valid shape × (length (now rows) ≡ shape .parties * total (rowSizes shape)) × (length (now sums) ≡ total (rowSizes shape)) ⌝ }
+    ensures { λ r. ⌜ r
+        ≡ sumsAnswer shape (now (ciphertext .entry)) e (sumXor (shape .parties) (λ i. row (total (rowSizes shape)) i (now (rows .entry)))) ⌝ }
+{
+    row_sums::sum_rows(shape.parties, rows, sums);
+    if !slices::equal(&sums[0..16], ciphertext) {
+        return Answer::ShareDiffers(shape.parties as u8);
+    }
+    if !product_holds(shape, sums) {
+        return Answer::ProductDiffers(e);
+    }
+    Answer::Accepted
+}
