@@ -2,169 +2,19 @@
 use banquet::Answer;
 use banquet::Shape;
 ghost use mathlib.Core.Path.{_≡_};
-ghost use mathlib.Core.Bool.{_||_};
-ghost use mathlib.Core.List.{_++_};
-ghost use Prim.Native.Nat.{_+_, _*_, _^_, _<_, _≤_};
-ghost use lib.Dec.{eqb};
+ghost use Prim.Native.Nat.{_*_, _^_, _≤_};
 ghost use lib.ListN.{length};
-ghost use Rattle.slices.specs.Lists.{rows as rowsOf, row, same};
 ghost use Rattle.slices.specs.Layout.{total};
 ghost use Rattle.shake.specs.Shake128.{shake128};
-ghost use Rattle.compare.specs.Lowest.{lowest};
 ghost use Rattle.banquet.specs.Shape.{transcriptSizes};
 ghost use Rattle.banquet.specs.Sets.{aesScheme};
 ghost use Rattle.banquet.specs.Answer.{workAfter};
-ghost use Rattle.banquet.specs.Hash.{commitment};
 ghost use Rattle.banquet.specs.Tree.{nodeSeeds, shownLeaves};
-ghost use Rattle.banquet.specs.Opening.{saltOf, executionOf, secondOf, commitmentOf, shownSeed, checkShares, checkParties, checkOpening};
+ghost use Rattle.banquet.specs.Opening.{saltOf, secondOf, shownSeed, checkParties, checkOpening};
 ghost use Rattle.banquet.specs.Calls.{verifyOpening};
 ghost use Rattle.sets.specs.Valid.{Valid};
-ghost use Rattle.sets.specs.Bounds.{rowSizes};
-ghost use Rattle.forms.specs.Stated.{statedRow};
 ghost use Rattle.scratch.specs.Scratch.{Scratch};
-ghost use Rattle.check_opening.specs.Steps.{Given, madeRow, rowsAnswer};
-
-// The rows of all parties as they are worked out from the seeds.
-fn made_rows(
-    shape: Shape,
-    public: &[u8],
-    transcript: &[u8],
-    e: u8,
-    second: u64,
-    seeds: &[u8],
-    out: &mut [u8],
-)
-    requires { ⌜ Given shape (now public) (now transcript) e second × (shape .parties * 16 ≤ length (now seeds))
-        × (length (now out) ≡ shape .parties * total (rowSizes shape)) ⌝ }
-    ensures { λ _. ⌜ now (out .exit)
-        ≡ rowsOf (madeRow shape (now (public .entry)) (now (transcript .entry)) (now (seeds .entry))) (shape .parties) ⌝ }
-{
-    let sizes = sets::transcript_sizes(shape);
-    execution::share_rows(
-        shape,
-        fields::field(&sizes, 0, transcript),
-        e,
-        seeds,
-        &public[0..16],
-        fields::field(&sizes, 4, transcript),
-        fields::field(&sizes, 5, transcript),
-        fields::field(&sizes, 6, transcript),
-        fields::field(&sizes, 7, transcript),
-        second,
-        out,
-    );
-}
-
-// The stated rows, and behind them those worked out.
-fn fill_rows(
-    shape: Shape,
-    public: &[u8],
-    transcript: &[u8],
-    e: u8,
-    second: u64,
-    seeds: &[u8],
-    rows: &mut [u8],
-)
-    requires { ⌜ Given shape (now public) (now transcript) e second × (shape .parties * 16 ≤ length (now seeds))
-        × (length (now rows) ≡ 2 * (shape .parties * total (rowSizes shape))) ⌝ }
-    ensures { λ _. ⌜ now (rows .exit)
-        ≡ rowsOf (statedRow shape (now (transcript .entry))) (shape .parties)
-        ++ rowsOf (madeRow shape (now (public .entry)) (now (transcript .entry)) (now (seeds .entry))) (shape .parties) ⌝ }
-{
-    let whole = rows.len();
-    let half = whole / 2;
-    stated::rows(shape, transcript, &mut rows[0..half]);
-    made_rows(
-        shape,
-        public,
-        transcript,
-        e,
-        second,
-        seeds,
-        &mut rows[half..whole],
-    );
-}
-
-// Numbers 14 and 15 for the rows worked out and those stated.
-fn compare_rows(
-    shape: Shape,
-    ciphertext: &[u8],
-    e: u8,
-    hidden: usize,
-    made: &[u8],
-    stated: &[u8],
-) -> Answer
-    requires { ⌜ Valid shape × (length (now made) ≡ shape .parties * total (rowSizes shape))
-        × (length (now stated) ≡ shape .parties * total (rowSizes shape)) ⌝ }
-    ensures { λ r. ⌜ r
-        ≡ rowsAnswer shape (now (ciphertext .entry)) e hidden (now (made .entry)) (now (stated .entry)) ⌝ }
-{
-    let len = sets::row_length(shape);
-    let found = compare::first_difference(shape.parties, len, hidden, made, stated);
-    if found < shape.parties {
-        return Answer::ShareDiffers(found as u8);
-    }
-    let mut sums = [0u8; 142];
-    sum_check::check_sums(shape, ciphertext, e, stated, &mut sums[0..len])
-}
-
-// Numbers 14 and 15, with scratch for the stated rows and those worked out.
-fn check_rows(
-    shape: Shape,
-    public: &[u8],
-    transcript: &[u8],
-    e: u8,
-    second: u64,
-    hidden: usize,
-    seeds: &[u8],
-    rows: &mut [u8],
-) -> Answer
-    requires { ⌜ Given shape (now public) (now transcript) e second × (shape .parties * 16 ≤ length (now seeds))
-        × (length (now rows) ≡ 2 * (shape .parties * total (rowSizes shape))) ⌝ }
-    ensures { λ r. ⌜ r ≡ checkShares (aesScheme shape) (now (public .entry)) (now (transcript .entry)) hidden (λ i. row 16 i (now (seeds .entry))) ⌝ }
-{
-    fill_rows(shape, public, transcript, e, second, seeds, rows);
-    let whole = rows.len();
-    let half = whole / 2;
-    compare_rows(
-        shape,
-        &public[16..32],
-        e,
-        hidden,
-        &rows[half..whole],
-        &rows[0..half],
-    )
-}
-
-// The lowest shown party whose commitment differs from the stated one, or the count of parties.
-fn first_commitment(
-    shape: Shape,
-    transcript: &[u8],
-    e: u8,
-    hidden: usize,
-    seeds: &[u8],
-    scratch: &mut [u8],
-) -> usize
-    requires { ⌜ Valid shape × (length (now transcript) ≡ total (transcriptSizes shape)) × (e ≡ executionOf (aesScheme shape) (now transcript))
-        × (shape .parties * 16 ≤ length (now seeds)) × (length (now scratch) ≡ shape .parties * 32) ⌝ }
-    ensures { λ r. ⌜ r
-        ≡ lowest (shape .parties) 0 (λ i. eqb i hidden
-        || same (commitment (aesScheme shape) (saltOf (aesScheme shape) (now (transcript .entry))) e i (row 16 i (now (seeds .entry))))
-        (commitmentOf (aesScheme shape) (now (transcript .entry)) i)) ⌝ }
-{
-    let sizes = sets::transcript_sizes(shape);
-    party::hash_rows(
-        0,
-        fields::field(&sizes, 0, transcript),
-        e,
-        shape.parties,
-        32,
-        seeds,
-        scratch,
-    );
-    let stated = fields::field(&sizes, 2, transcript);
-    compare::first_difference(shape.parties, 32, hidden, scratch, stated)
-}
+ghost use Rattle.share_check.specs.Steps.{Given};
 
 // The seeds that the sibling seeds expand to.
 fn shown_seeds(
@@ -213,13 +63,20 @@ fn check_seeds(
 {
     shown_seeds(shape, transcript, e, hidden, siblings, seeds);
     let end = shape.parties * 32;
-    let found = first_commitment(shape, transcript, e, hidden, seeds, &mut work[0..end]);
+    let found = commitment_check::first_commitment(
+        shape,
+        transcript,
+        e,
+        hidden,
+        seeds,
+        &mut work[0..end],
+    );
     if found < shape.parties {
         return Answer::CommitmentDiffers(found as u8);
     }
     let len = sets::row_length(shape);
     let all = 2 * (shape.parties * len);
-    check_rows(
+    share_check::check_rows(
         shape,
         public,
         transcript,

@@ -18,6 +18,11 @@ use Rattle.forms.specs.Stated.{statedRow}
 
 -- ---- fields of a transcript
 
+-- field k of a transcript has its size
+pub field-size : (S : Shape) {sizes f : List ℕ} (t : List ℕ) (k : ℕ) → sizes ≡ transcriptSizes S → length t ≡ total (transcriptSizes S)
+    → f ≡ field sizes k t → length f ≡ getD (transcriptSizes S) k 0
+field-size S t k e h is = rw (is, e) (length-field (transcriptSizes S) k t h)
+
 module _ {S : Shape} (v : Valid S) {sizes : List ℕ} (s : List ℕ) where
   pub transcript-fits : sizes ≡ transcriptSizes S → length s ≡ total (transcriptSizes S) → (k : ℕ) → k < 12
       → (k < length sizes) × (total sizes ≤ length s) × (total sizes < 2 ^ 63)

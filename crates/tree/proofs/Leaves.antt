@@ -1,28 +1,19 @@
--- The seeds of a subtree's leaves, and of a leaf's siblings, from what was computed for the halves. Assumes nothing.
-use mathlib.Core.Path.{_≡_, sym, ap, _∙_}
-use mathlib.Core.List.{List, [], _∷_, _++_, append-nil}
+-- The seeds of a subtree's leaves, from what was computed for the halves. Assumes nothing.
+use mathlib.Core.Path.{_≡_, sym, _∙_}
+use mathlib.Core.List.{List, _++_, append-nil}
 use Prim.Native.Nat.{ℕ, zero, suc, _+_, _-_, _*_, _^_, _<_, _≤_}
 use native.Mathlib.Omega.{arith}
 use borrow.Author.Tests.{lt-ltb, le-ltb}
-use lib.ListN.{length, take, drop, replicate, length-drop}
-use lib.Seq.{length-take-le}
+use lib.ListN.{length, take, drop, replicate}
 use Rattle.slices.specs.Layout.{layout}
 use Rattle.shake.specs.Shake128.{shake128}
-use Rattle.shake.specs.Laws.{length-shake}
 use Rattle.banquet.specs.Hash.{children}
-use Rattle.banquet.specs.Tree.{nodeSeeds, left, leaves, siblings, siblingSeeds, shownLeaves}
+use Rattle.banquet.specs.Tree.{nodeSeeds, left, leaves, shownLeaves}
 use Rattle.tree.specs.Rows.{seeds-append}
 use Rattle.tree.proofs.Halves.{rest}
 
 -- p has the seeds of the two nodes below v
 module _ (salt : List ℕ) (e v : ℕ) (seed : List ℕ) {p : List ℕ} (pair : p ≡ children shake128 salt e v seed) where
-  pair-long : length p ≡ 32
-  unfolding children
-  pair-long = ap length pair ∙ length-shake _ 32
-
-  pub both-long : (length (take 16 p) ≡ 16) × (length (take 16 (drop 16 p)) ≡ 16)
-  both-long = (length-take-le 16 p (omega (arith, pair-long)), length-take-le 16 (drop 16 p) (omega (arith, length-drop 16 p, pair-long)))
-
   pub leaves-from : (d : ℕ) {y z : List ℕ} → 1 ≤ d → y ≡ nodeSeeds (leaves shake128 salt e (d - 1) (2 * v + 1) (take 16 p))
       → z ≡ nodeSeeds (leaves shake128 salt e (d - 1) (2 * v + 2) (take 16 (drop 16 p))) → y ++ z ≡ nodeSeeds (leaves shake128 salt e d v seed)
   unfolding leaves
@@ -60,22 +51,3 @@ module _ (salt : List ℕ) (e v : ℕ) (seeds : List ℕ) (h : ℕ) where
   shown-right (suc d) n w l f g =
       let k : suc d - 1 ≡ d = omega arith in
       rw (f, g, rest seeds, w, k, le-ltb h (2 ^ d) (rw (w, k) at l)) (sym (seeds-append (leaves shake128 salt e d (2 * v + 1) (take 16 seeds)) _))
-
-module _ (salt : List ℕ) (e v : ℕ) (seed : List ℕ) {p : List ℕ} (pair : p ≡ children shake128 salt e v seed) (h : ℕ) where
-  pub siblings-left : (d : ℕ) {m : ℕ} {y z : List ℕ} → 1 ≤ d → m ≡ 2 ^ (d - 1) → h < m → y ≡ take 16 (drop 16 p)
-      → z ≡ siblingSeeds shake128 salt e (d - 1) (2 * v + 1) (take 16 p) h → y ++ z ≡ siblingSeeds shake128 salt e d v seed h
-  unfolding siblings layout
-  siblings-left zero n w l f g = absurd (omega arith)
-  siblings-left (suc d) n w l f g = let k : suc d - 1 ≡ d = omega arith in rw (f, g, pair, k, lt-ltb h (2 ^ d) (rw (w, k) at l))
-
-  pub siblings-right : (d : ℕ) {m : ℕ} {y z : List ℕ} → 1 ≤ d → m ≡ 2 ^ (d - 1) → m ≤ h → y ≡ take 16 p
-      → z ≡ siblingSeeds shake128 salt e (d - 1) (2 * v + 2) (take 16 (drop 16 p)) (h - m) → y ++ z ≡ siblingSeeds shake128 salt e d v seed h
-  unfolding siblings layout
-  siblings-right zero n w l f g = absurd (omega arith)
-  siblings-right (suc d) n w l f g = let k : suc d - 1 ≡ d = omega arith in rw (f, g, pair, w, k, le-ltb h (2 ^ d) (rw (w, k) at l))
-
-pub siblings-none : (salt : List ℕ) (e v : ℕ) (seed : List ℕ) (h d : ℕ) (y : List ℕ) → d ≡ 0 → length y ≡ d * 16
-    → y ≡ siblingSeeds shake128 salt e d v seed h
-unfolding siblings layout
-siblings-none salt e v seed h d [] w f = rw w
-siblings-none salt e v seed h d (b ∷ y) w f = absurd (omega arith)

@@ -1,26 +1,9 @@
-// The tree of seeds: the leaves' from the root's, and from the sibling seeds of a hidden leaf; and these siblings.
+// The seeds of the tree's leaves: from the root's, and from the sibling seeds of a hidden leaf.
 ghost use mathlib.Core.Path.{_≡_};
 ghost use Prim.Native.Nat.{_+_, _*_, _^_, _≤_};
 ghost use lib.ListN.{length};
 ghost use Rattle.shake.specs.Shake128.{shake128};
-ghost use Rattle.banquet.specs.Hash.{children as childrenOf};
-ghost use Rattle.banquet.specs.Tree.{nodeSeeds, leaves, siblingSeeds, shownLeaves};
-
-// "the seeds of nodes 2v+1 and 2v+2", one after the other.
-fn children(salt: &[u8], e: u8, node: usize, seed: &[u8]) -> [u8; 32]
-    requires { ⌜ (length (now salt) ≡ 32) × (length (now seed) ≡ 16) ⌝ }
-    ensures { λ r. ⌜ r ≡ childrenOf shake128 (now (salt .entry)) e node (now (seed .entry)) ⌝ }
-{
-    let mut m = [0u8; 54];
-    m[0] = 5;
-    m[33] = e;
-    numbers::store(&mut m, 34, 4, node as u64);
-    slices::copy(&mut m[1..33], salt);
-    slices::copy(&mut m[38..54], seed);
-    let mut pair = [0u8; 32];
-    sponge::digest(&m, &mut pair);
-    pair
-}
+ghost use Rattle.banquet.specs.Tree.{nodeSeeds, leaves, shownLeaves};
 
 // The seeds of the leaves below a node: "A subtree is expanded by expanding its two halves."
 pub fn expand(depth: usize, salt: &[u8], e: u8, node: usize, seed: &[u8], out: &mut [u8])
@@ -31,7 +14,7 @@ pub fn expand(depth: usize, salt: &[u8], e: u8, node: usize, seed: &[u8], out: &
     if depth == 0 {
         slices::copy(out, seed);
     } else {
-        let pair = children(salt, e, node, seed);
+        let pair = nodes::children(salt, e, node, seed);
         let whole = out.len();
         let half = whole / 2;
         expand(
@@ -110,50 +93,6 @@ pub fn expand_shown(
                 &seeds[16..end],
                 hidden - middle,
                 &mut out[half..whole],
-            );
-        }
-    }
-}
-
-// The seeds of the siblings on the way from a node to leaf `hidden` below it, "from the top down".
-pub fn sibling_seeds(
-    depth: usize,
-    salt: &[u8],
-    e: u8,
-    node: usize,
-    seed: &[u8],
-    hidden: usize,
-    out: &mut [u8],
-)
-    requires { ⌜ (length (now salt) ≡ 32) × (length (now seed) ≡ 16) × (length (now out) ≡ depth * 16)
-        × ((node + 2) * 2 ^ depth ≤ 256) ⌝ }
-    ensures { λ _. ⌜ now (out .exit) ≡ siblingSeeds shake128 (now (salt .entry)) e depth node (now (seed .entry)) hidden ⌝ }
-{
-    if depth > 0 {
-        let seeds = children(salt, e, node, seed);
-        let end = out.len();
-        let half = 1 << (depth - 1);
-        if hidden < half {
-            slices::copy(&mut out[0..16], &seeds[16..32]);
-            sibling_seeds(
-                depth - 1,
-                salt,
-                e,
-                2 * node + 1,
-                &seeds[0..16],
-                hidden,
-                &mut out[16..end],
-            );
-        } else {
-            slices::copy(&mut out[0..16], &seeds[0..16]);
-            sibling_seeds(
-                depth - 1,
-                salt,
-                e,
-                2 * node + 2,
-                &seeds[16..32],
-                hidden - half,
-                &mut out[16..end],
             );
         }
     }

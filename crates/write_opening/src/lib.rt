@@ -76,7 +76,7 @@ fn write_tail(shape: Shape, salt: &[u8], e: u8, root: &[u8], hidden: usize, out:
 {
     let end = out.len();
     out[0] = hidden as u8;
-    tree::sibling_seeds(shape.depth, salt, e, 0, root, hidden, &mut out[1..end]);
+    siblings::sibling_seeds(shape.depth, salt, e, 0, root, hidden, &mut out[1..end]);
 }
 
 // The whole opening, where rows has each party's shares of the output, of c, a and b; key, inverse and product are the offsets.

@@ -6,8 +6,7 @@ use Rattle.slices.specs.Layout.{field}
 use Rattle.shake.specs.Shake128.{shake128}
 use Rattle.banquet.specs.Tree.{nodeSeeds, shownLeaves}
 use Rattle.sets.specs.Bounds.{leaves-most}
-use Rattle.stated.proofs.Laws.{transcript-fits}
-use Rattle.check_opening.proofs.Rows.{field-size}
+use Rattle.stated.proofs.Laws.{transcript-fits, field-size}
 use Rattle.check_opening.proofs.shown_seeds.Statement.{statement}
 use Rattle.check_opening.proofs.shown_seeds.Tie as tie
 

@@ -6,13 +6,14 @@ use lib.ListN.{length}
 use borrow.Author.Needs.{needs}
 use borrow.Fn.Kinds.{In}
 use borrow.Fn.PlainCycle.{Measures, is, falls, and}
-use Rattle.tree.proofs.Halves.{Halved, halved, join, first-half, second-half}
-use Rattle.tree.proofs.Leaves.{both-long, leaves-none, leaves-from}
+use Rattle.nodes.proofs.Halves.{Halved, halved, both-long, join}
+use Rattle.tree.proofs.Halves.{first-half, second-half}
+use Rattle.tree.proofs.Leaves.{leaves-none, leaves-from}
 use Rattle.tree.proofs.expand.Reads as expand
 use Rattle.tree.proofs.expand.Kinds as expand-kinds
 use Rattle.tree.proofs.+expand.Lts-expand as expand-lts
 use Rattle.slices.proofs.copy.Reads as copy-reads
-use Rattle.tree.proofs.children.Reads as children-reads
+use Rattle.nodes.proofs.children.Reads as children-reads
 use Rattle.tree.proofs.+expand.{statement}
 use Rattle.tree.proofs.+expand.Tie.{close}
 

@@ -7,7 +7,8 @@ use lib.Seq.{length-take-le}
 use borrow.Author.Needs.{needs}
 use borrow.Fn.Kinds.{In}
 use borrow.Fn.PlainCycle.{Measures, is, falls, and}
-use Rattle.tree.proofs.Halves.{Halved, halved, join, first-half, second-half, middle, seeds-long}
+use Rattle.nodes.proofs.Halves.{Halved, halved, join}
+use Rattle.tree.proofs.Halves.{first-half, second-half, middle, seeds-long}
 use Rattle.tree.proofs.Leaves.{shown-none, shown-left, shown-right}
 use Rattle.tree.proofs.expand_shown.Reads as expand-shown
 use Rattle.tree.proofs.expand_shown.Kinds as expand-shown-kinds

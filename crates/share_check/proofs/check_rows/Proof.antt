@@ -1,8 +1,8 @@
--- `check_opening::check_rows` meets its contract: the halves are read back and compared. Assumes nothing.
+-- `share_check::check_rows` meets its contract: the halves are read back and compared. Assumes nothing.
 use borrow.Author.Needs.{needs}
-use Rattle.check_opening.proofs.Rows.{read-lengths, halves-checked}
-use Rattle.check_opening.proofs.check_rows.Statement.{statement}
-use Rattle.check_opening.proofs.check_rows.Tie as tie
+use Rattle.share_check.proofs.Rows.{read-lengths, halves-checked}
+use Rattle.share_check.proofs.check_rows.Statement.{statement}
+use Rattle.share_check.proofs.check_rows.Tie as tie
 
 abbrev start : tie.After-fill-rows → tie.Start
 start f = f .before .before .before .before .before .before

@@ -1,14 +1,14 @@
--- `check_opening::fill_rows` meets its contract: the two halves are written one after the other. Assumes nothing.
+-- `share_check::fill_rows` meets its contract: the two halves are written one after the other. Assumes nothing.
 use Prim.Native.Nat.{_*_, _/_, _-_}
 use lib.ListN.{length}
 use borrow.Author.Needs.{needs}
 use borrow.Rule.Slice.PartMut.{putMid, same-len-mid}
 use Rattle.slices.specs.Layout.{total}
 use Rattle.sets.specs.Bounds.{rowSizes}
-use Rattle.check_opening.proofs.Halves.{second-lent, halves-put}
-use Rattle.check_opening.proofs.Rows.{stated-length}
-use Rattle.check_opening.proofs.fill_rows.Statement.{statement}
-use Rattle.check_opening.proofs.fill_rows.Tie as tie
+use Rattle.share_check.proofs.Halves.{second-lent, halves-put}
+use Rattle.share_check.proofs.Rows.{stated-length}
+use Rattle.share_check.proofs.fill_rows.Statement.{statement}
+use Rattle.share_check.proofs.fill_rows.Tie as tie
 
 made-rows-requires : tie.Need-made-rows-requires
 made-rows-requires c κs =

@@ -1,4 +1,4 @@
--- `tree::children` hashes the buffer that has the input's parts. Assumes nothing.
+-- `nodes::children` hashes the buffer that has the input's parts. Assumes nothing.
 use mathlib.Core.Path.{_≡_, sym, ap, _∙_}
 use mathlib.Core.List.{List}
 use Prim.Native.Nat.{ℕ}
@@ -10,9 +10,9 @@ use Rattle.slices.specs.Lists.{put}
 use Rattle.slices.specs.Numbers.{bytesOf}
 use Rattle.shake.specs.Shake128.{shake128}
 use Rattle.banquet.specs.Hash.{children}
-use Rattle.tree.proofs.Input.{stored, salt-long, buffer}
-use Rattle.tree.proofs.children.Statement.{statement}
-use Rattle.tree.proofs.children.Tie as tie
+use Rattle.nodes.proofs.Input.{stored, salt-long, buffer}
+use Rattle.nodes.proofs.children.Statement.{statement}
+use Rattle.nodes.proofs.children.Tie as tie
 
 -- the salt is copied
 module _ (c : tie.After-copy) where

@@ -1,12 +1,12 @@
--- `check_opening::compare_rows` meets its contract: the lowest row that differs, or else the sums. Assumes nothing.
+-- `share_check::compare_rows` meets its contract: the lowest row that differs, or else the sums. Assumes nothing.
 use mathlib.Core.Path.{sym, ap, _∙_}
 use Prim.Native.Nat.{_*_}
 use native.Mathlib.Omega.{arith}
 use borrow.Author.Needs.{needs}
 use Rattle.sets.specs.Bounds.{row-most}
-use Rattle.check_opening.proofs.Rows.{row-differs, rows-agree}
-use Rattle.check_opening.proofs.compare_rows.Statement.{statement}
-use Rattle.check_opening.proofs.compare_rows.Tie as tie
+use Rattle.share_check.proofs.Rows.{row-differs, rows-agree}
+use Rattle.share_check.proofs.compare_rows.Statement.{statement}
+use Rattle.share_check.proofs.compare_rows.Tie as tie
 
 abbrev start : tie.After-row-length → tie.Start
 start c = c .before .before .before .before

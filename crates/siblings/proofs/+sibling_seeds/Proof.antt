@@ -1,4 +1,4 @@
--- `tree::sibling_seeds` meets its contract; the depth falls. A seed is copied, and the rest of the output lent to a call. Assumes nothing.
+-- `siblings::sibling_seeds` meets its contract; the depth falls. A seed is copied, and the rest of the output lent to a call. Assumes nothing.
 use mathlib.Core.Path.{_≡_, _∙_}
 use mathlib.Core.List.{List}
 use Prim.Native.Nat.{ℕ, _-_, _*_, _<_, _≤_}
@@ -9,15 +9,15 @@ use borrow.Author.Needs.{needs}
 use borrow.Rule.Slice.PartMut.{putMid}
 use borrow.Fn.Kinds.{In}
 use borrow.Fn.PlainCycle.{Measures, is, falls, and}
-use Rattle.tree.proofs.Halves.{Halved, halved, shift-lt, shift-is, rest-long, join}
-use Rattle.tree.proofs.Leaves.{both-long, siblings-none, siblings-left, siblings-right}
-use Rattle.tree.proofs.sibling_seeds.Reads as sibling-seeds
-use Rattle.tree.proofs.sibling_seeds.Kinds as sibling-seeds-kinds
-use Rattle.tree.proofs.+sibling_seeds.Lts-sibling_seeds as sibling-seeds-lts
-use Rattle.tree.proofs.children.Reads as children-reads
+use Rattle.nodes.proofs.Halves.{Halved, halved, both-long, rest-long, join}
+use Rattle.siblings.proofs.Siblings.{shift-lt, shift-is, siblings-none, siblings-left, siblings-right}
+use Rattle.siblings.proofs.sibling_seeds.Reads as sibling-seeds
+use Rattle.siblings.proofs.sibling_seeds.Kinds as sibling-seeds-kinds
+use Rattle.siblings.proofs.+sibling_seeds.Lts-sibling_seeds as sibling-seeds-lts
+use Rattle.nodes.proofs.children.Reads as children-reads
 use Rattle.slices.proofs.copy.Reads as copy-reads
-use Rattle.tree.proofs.+sibling_seeds.{statement}
-use Rattle.tree.proofs.+sibling_seeds.Tie.{close}
+use Rattle.siblings.proofs.+sibling_seeds.{statement}
+use Rattle.siblings.proofs.+sibling_seeds.Tie.{close}
 
 abbrev μ-sibling-seeds : Measures 3 sibling-seeds-kinds.ps ℕ
 μ-sibling-seeds κs a = a .0

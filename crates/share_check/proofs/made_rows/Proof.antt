@@ -1,4 +1,4 @@
--- `check_opening::made_rows` meets its contract. Assumes nothing.
+-- `share_check::made_rows` meets its contract. Assumes nothing.
 use mathlib.Core.Path.{_≡_, refl, _∙_}
 use mathlib.Core.List.{List}
 use Prim.Native.Nat.{ℕ, _<_, _≤_, _^_}
@@ -8,10 +8,10 @@ use borrow.Author.Needs.{needs}
 use Rattle.slices.specs.Layout.{total, field}
 use Rattle.banquet.specs.Shape.{transcriptSizes}
 use Rattle.sets.specs.Bounds.{all-sboxes}
-use Rattle.stated.proofs.Laws.{transcript-fits}
-use Rattle.check_opening.proofs.Rows.{field-size, second-fits, front-size, made-right}
-use Rattle.check_opening.proofs.made_rows.Statement.{statement}
-use Rattle.check_opening.proofs.made_rows.Tie as tie
+use Rattle.stated.proofs.Laws.{transcript-fits, field-size}
+use Rattle.share_check.proofs.Rows.{second-fits, front-size, made-right}
+use Rattle.share_check.proofs.made_rows.Statement.{statement}
+use Rattle.share_check.proofs.made_rows.Tie as tie
 
 -- ---- where the sizes are known
 

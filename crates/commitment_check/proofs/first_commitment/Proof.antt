@@ -1,12 +1,11 @@
--- `check_opening::first_commitment` meets its contract. Assumes nothing.
+-- `commitment_check::first_commitment` meets its contract. Assumes nothing.
 use mathlib.Core.Path.{_∙_}
 use native.Mathlib.Omega.{arith}
 use borrow.Author.Needs.{needs}
-use Rattle.stated.proofs.Laws.{transcript-fits}
-use Rattle.check_opening.proofs.Rows.{field-size}
-use Rattle.check_opening.proofs.Seeds.{differing}
-use Rattle.check_opening.proofs.first_commitment.Statement.{statement}
-use Rattle.check_opening.proofs.first_commitment.Tie as tie
+use Rattle.stated.proofs.Laws.{transcript-fits, field-size}
+use Rattle.commitment_check.proofs.Commitments.{differing}
+use Rattle.commitment_check.proofs.first_commitment.Statement.{statement}
+use Rattle.commitment_check.proofs.first_commitment.Tie as tie
 
 abbrev start : tie.After-transcript-sizes → tie.Start
 start z = z .before .before .before .before

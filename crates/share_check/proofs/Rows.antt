@@ -5,13 +5,13 @@ use mathlib.Core.List.{List, _++_}
 use Prim.Native.Nat.{ℕ, _+_, _*_, _/_, _-_, _^_, _<_, _≤_}
 use native.Mathlib.Omega.{arith}
 use lib.Dec.{eqb}
-use lib.ListN.{length, getD, take, drop, length-append, length-take, length-drop}
+use lib.ListN.{length, take, drop, length-append, length-take, length-drop}
 use lib.Seq.{take-all}
 use Rattle.slices.specs.Lists.{rows, row, same, sumXor}
 use Rattle.slices.specs.Tab.{length-rows, row-of-rows}
 use Rattle.slices.specs.Sums.{sumXor-cong}
 use Rattle.slices.specs.Numbers.{number-lt, length-bytesOf, length-numbers}
-use Rattle.slices.specs.Layout.{total, field, length-field, sized-field}
+use Rattle.slices.specs.Layout.{total, field, sized-field}
 use Rattle.compare.specs.Lowest.{lowest}
 use Rattle.banquet.specs.declared.Shape.{Shape}
 use Rattle.banquet.specs.declared.Answer.{Answer}
@@ -24,25 +24,13 @@ use Rattle.banquet.specs.Execution.{challenge, outputShare}
 use Rattle.banquet.specs.Opening.{transcriptPart, committedOf, sharesHold, outputsHold, productHolds, executionOf, tapeUnder, checkShares}
 use Rattle.theorems.specs.Keys.{sized-front}
 use Rattle.theorems.specs.Shares.{Fits, hashed-tape, sized-outputShare}
-use Rattle.sets.specs.Valid.{Valid}
 use Rattle.sets.specs.Laws.{laws}
-use Rattle.sets.specs.Bounds.{rowSizes, rows-most}
+use Rattle.sets.specs.Bounds.{rowSizes}
 use Rattle.forms.specs.Party.{shareRow, committed}
 use Rattle.forms.specs.Stated.{statedRow, row-same}
 use Rattle.forms.specs.Sums.{sumsAnswer, length-stated, sums-outputs, sums-product}
-use Rattle.check_opening.specs.Steps.{Given, madeRow, rowsAnswer, each-found, each-none, each-cong}
-use Rattle.check_opening.proofs.Halves.{halves-read}
-
--- there is room for all rows, twice
-pub rows-fit : {S : Shape} {len : ℕ} → Valid S → len ≡ total (rowSizes S) → S .parties * len ≤ 18176
-rows-fit v e = rw e (rows-most v)
-
--- ---- the fields of a transcript
-
--- field k has its size
-pub field-size : (S : Shape) {sizes f : List ℕ} (t : List ℕ) (k : ℕ) → sizes ≡ transcriptSizes S → length t ≡ total (transcriptSizes S)
-    → f ≡ field sizes k t → length f ≡ getD (transcriptSizes S) k 0
-field-size S t k e h is = rw (is, e) (length-field (transcriptSizes S) k t h)
+use Rattle.share_check.specs.Steps.{Given, madeRow, rowsAnswer, each-found, each-none, each-cong}
+use Rattle.share_check.proofs.Halves.{halves-read}
 
 module _ {S : Shape} {publicKey t : List ℕ} {e second : ℕ} (g : Given S publicKey t e second) where
   open Shape S using (parties, wide, m1)

@@ -1,0 +1,40 @@
+-- The commitments worked out and stated, and the lowest that differs. Assumes nothing.
+use mathlib.Core.Path.{_≡_, refl, ap, ap₂, _∙_}
+use mathlib.Core.Bool.{_||_}
+use mathlib.Core.List.{List}
+use Prim.Native.Nat.{ℕ}
+use lib.Dec.{eqb}
+use Rattle.slices.specs.Lists.{rows, row, same}
+use Rattle.slices.specs.Tab.{row-of-rows}
+use Rattle.slices.specs.Layout.{field}
+use Rattle.compare.specs.Lowest.{lowest, lowest-cong}
+use Rattle.party.specs.Party.{partyHash}
+use Rattle.party.proofs.Laws.{length-hash}
+use Rattle.banquet.specs.declared.Shape.{Shape}
+use Rattle.banquet.specs.Shape.{transcriptSizes}
+use Rattle.banquet.specs.Sets.{aesScheme}
+use Rattle.banquet.specs.Hash.{commitment}
+use Rattle.banquet.specs.Opening.{saltOf, commitmentOf}
+
+hashed : (S : Shape) (salt : List ℕ) (e i : ℕ) (seed : List ℕ) → partyHash 0 salt e i seed 32 ≡ commitment (aesScheme S) salt e i seed
+unfolding partyHash commitment
+hashed S salt e i seed = refl
+
+module _ (S : Shape) (t seeds : List ℕ) (e hidden : ℕ) where
+  open Shape S using (parties)
+
+  -- the lowest shown party whose commitment differs
+  pub differing : {sizes salt stated made : List ℕ} {found : ℕ} → sizes ≡ transcriptSizes S → salt ≡ field sizes 0 t → stated ≡ field sizes 2 t
+      → made ≡ rows (λ i. partyHash 0 salt e i (row 16 i seeds) 32) parties
+      → found ≡ lowest parties 0 (λ i. eqb i hidden || same (row 32 i made) (row 32 i stated))
+      → found ≡ lowest parties 0
+      (λ i. eqb i hidden || same (commitment (aesScheme S) (saltOf (aesScheme S) t) e i (row 16 i seeds)) (commitmentOf (aesScheme S) t i))
+  differing {sizes} {salt} {stated} {made} z s c m f =
+      let salt-is = s ∙ ap (λ l. field l 0 t) z in
+      let stated-is = c ∙ ap (λ l. field l 2 t) z in
+      f ∙ lowest-cong parties (λ i l. ap (eqb i hidden ||_)
+      (ap₂ same
+      (ap (row 32 i) m
+      ∙ row-of-rows 32 (λ i. partyHash 0 salt e i (row 16 i seeds) 32) parties (λ j k. length-hash 0 salt e j (row 16 j seeds) 32) i l
+      ∙ hashed S salt e i (row 16 i seeds) ∙ ap (λ x. commitment (aesScheme S) x e i (row 16 i seeds)) salt-is)
+      (ap (row 32 i) stated-is)))
