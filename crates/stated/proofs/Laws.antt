@@ -7,7 +7,7 @@ use lib.ListN.{length, getD, take, drop, length-drop, drop-of-length-le}
 use lib.Seq.{length-take-le}
 use borrow.Rule.Slice.PartMut.{putMid}
 use Rattle.slices.specs.Lists.{row}
-use Rattle.slices.specs.Layout.{total, field}
+use Rattle.slices.specs.Layout.{total, field, length-field}
 use Rattle.slices.proofs.Put.{Wrote, wrote-more, wrote-all, length-put, put-mid}
 use Rattle.slices.proofs.Rows.{row-fits}
 use Rattle.banquet.specs.declared.Shape.{Shape}
