@@ -99,7 +99,7 @@ returns-2 c =
     let d = shown f in
     let s = start d in (
       commitments-passed (s .pre .0) (s .args .siblings .now) (s .args .hidden) (s .pre .1) (d .shown-seeds .ensures) (f .first-commitment .ensures .0)
-          (r .before .if1 .left) (k .check-rows .ensures),
+          (r .before .if1 .left) (k .check-rows .ensures .0),
       scratch-then (scratch1 f)
           (scratch-front (2 * (n f * r .row-length .result)) (work1 f) (k .check-rows .last .1 .1 .1 .1 .1 .1 .1 .0) (omega (arith, most r))
           (omega (arith, scratch1 f .long, s .pre .3)) (k .check-rows .kept .1 .1 .1 .1 .1 .1 .1 .0)),
