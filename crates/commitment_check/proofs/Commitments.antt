@@ -5,7 +5,7 @@ use mathlib.Core.List.{List}
 use Prim.Native.Nat.{ℕ}
 use lib.Dec.{eqb}
 use Rattle.slices.specs.Lists.{rows, row, same}
-use Rattle.slices.specs.Tab.{row-of-rows}
+use Rattle.slices.specs.Tab.{row-of-rows, rows-cong}
 use Rattle.slices.specs.Layout.{field}
 use Rattle.compare.specs.Lowest.{lowest, lowest-cong}
 use Rattle.party.specs.Party.{partyHash}
@@ -20,21 +20,30 @@ hashed : (S : Shape) (salt : List ℕ) (e i : ℕ) (seed : List ℕ) → partyHa
 unfolding partyHash commitment
 hashed S salt e i seed = refl
 
-module _ (S : Shape) (t seeds : List ℕ) (e hidden : ℕ) where
+module _ (S : Shape) (t seeds : List ℕ) (e : ℕ) where
   open Shape S using (parties)
 
-  -- the lowest shown party whose commitment differs
-  pub differing : {sizes salt stated made : List ℕ} {found : ℕ} → sizes ≡ transcriptSizes S → salt ≡ field sizes 0 t → stated ≡ field sizes 2 t
-      → made ≡ rows (λ i. partyHash 0 salt e i (row 16 i seeds) 32) parties
-      → found ≡ lowest parties 0 (λ i. eqb i hidden || same (row 32 i made) (row 32 i stated))
-      → found ≡ lowest parties 0
-      (λ i. eqb i hidden || same (commitment (aesScheme S) (saltOf (aesScheme S) t) e i (row 16 i seeds)) (commitmentOf (aesScheme S) t i))
-  differing {sizes} {salt} {stated} {made} z s c m f =
-      let salt-is = s ∙ ap (λ l. field l 0 t) z in
-      let stated-is = c ∙ ap (λ l. field l 2 t) z in
-      f ∙ lowest-cong parties (λ i l. ap (eqb i hidden ||_)
-      (ap₂ same
-      (ap (row 32 i) m
-      ∙ row-of-rows 32 (λ i. partyHash 0 salt e i (row 16 i seeds) 32) parties (λ j k. length-hash 0 salt e j (row 16 j seeds) 32) i l
-      ∙ hashed S salt e i (row 16 i seeds) ∙ ap (λ x. commitment (aesScheme S) x e i (row 16 i seeds)) salt-is)
-      (ap (row 32 i) stated-is)))
+  -- party i's commitment, worked out
+  abbrev committed : ℕ → List ℕ
+  committed i = commitment (aesScheme S) (saltOf (aesScheme S) t) e i (row 16 i seeds)
+
+  module _ {sizes salt made : List ℕ} (z : sizes ≡ transcriptSizes S) (s : salt ≡ field sizes 0 t)
+      (m : made ≡ rows (λ i. partyHash 0 salt e i (row 16 i seeds) 32) parties) where
+    row-hashed : (i : ℕ) → partyHash 0 salt e i (row 16 i seeds) 32 ≡ committed i
+    row-hashed i =
+        hashed S salt e i (row 16 i seeds) ∙ ap (λ x. commitment (aesScheme S) x e i (row 16 i seeds)) (s ∙ ap (λ l. field l 0 t) z)
+
+    -- all of them
+    pub all-hashed : made ≡ rows committed parties
+    all-hashed = m ∙ rows-cong parties (λ i l. row-hashed i)
+
+    -- the lowest shown party whose commitment differs
+    pub differing : (hidden : ℕ) {stated : List ℕ} {found : ℕ} → stated ≡ field sizes 2 t
+        → found ≡ lowest parties 0 (λ i. eqb i hidden || same (row 32 i made) (row 32 i stated))
+        → found ≡ lowest parties 0 (λ i. eqb i hidden || same (committed i) (commitmentOf (aesScheme S) t i))
+    differing hidden c f =
+        f ∙ lowest-cong parties (λ i l. ap (eqb i hidden ||_)
+        (ap₂ same
+        (ap (row 32 i) m
+        ∙ row-of-rows 32 (λ i. partyHash 0 salt e i (row 16 i seeds) 32) parties (λ j k. length-hash 0 salt e j (row 16 j seeds) 32) i l
+        ∙ row-hashed i) (ap (row 32 i) (c ∙ ap (λ l. field l 2 t) z))))

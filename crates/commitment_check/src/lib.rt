@@ -5,7 +5,7 @@ ghost use mathlib.Core.Bool.{_||_};
 ghost use Prim.Native.Nat.{_*_, _≤_};
 ghost use lib.Dec.{eqb};
 ghost use lib.ListN.{length};
-ghost use Rattle.slices.specs.Lists.{row, same};
+ghost use Rattle.slices.specs.Lists.{rows, row, same};
 ghost use Rattle.slices.specs.Layout.{total};
 ghost use Rattle.compare.specs.Lowest.{lowest};
 ghost use Rattle.banquet.specs.Shape.{transcriptSizes};
@@ -29,6 +29,9 @@ pub fn first_commitment(
         ≡ lowest (shape .parties) 0 (λ i. eqb i hidden
         || same (commitment (aesScheme shape) (saltOf (aesScheme shape) (now (transcript .entry))) e i (row 16 i (now (seeds .entry))))
         (commitmentOf (aesScheme shape) (now (transcript .entry)) i)) ⌝ }
+    ensures { λ _. ⌜ now (scratch .exit)
+        ≡ rows (λ i. commitment (aesScheme shape) (saltOf (aesScheme shape) (now (transcript .entry))) e i (row 16 i (now (seeds .entry))))
+        (shape .parties) ⌝ }
 {
     let sizes = sets::transcript_sizes(shape);
     party::hash_rows(

@@ -112,6 +112,9 @@ pub fn check_rows(
     requires { ⌜ Given shape (now public) (now transcript) e second × (shape .parties * 16 ≤ length (now seeds))
         × (length (now rows) ≡ 2 * (shape .parties * total (rowSizes shape))) ⌝ }
     ensures { λ r. ⌜ r ≡ checkShares (aesScheme shape) (now (public .entry)) (now (transcript .entry)) hidden (λ i. row 16 i (now (seeds .entry))) ⌝ }
+    ensures { λ _. ⌜ now (rows .exit)
+        ≡ rowsOf (statedRow shape (now (transcript .entry))) (shape .parties)
+        ++ rowsOf (madeRow shape (now (public .entry)) (now (transcript .entry)) (now (seeds .entry))) (shape .parties) ⌝ }
 {
     fill_rows(shape, public, transcript, e, second, seeds, rows);
     let whole = rows.len();

@@ -57,26 +57,32 @@ pub product-right : {S : Shape} (s : List ℕ) {sizes a b : List ℕ} {c d : ℕ
 unfolding rowProductHolds field
 product-right {S} s {sizes} v e c f g d = ap₂ eqb c (d ∙ dot-sum (field sizes 2 s) (field sizes 3 s) v f g ∙ rw e refl)
 
--- ---- the end of the check
+-- ---- the end of the check: the answer, and the sums as they are left
 
 module _ (S : Shape) (rows ciphertext : List ℕ) (e : ℕ) {sums : List ℕ} {len : ℕ} {test : Bool} (size : len ≡ total (rowSizes S))
     (is : sums ≡ sumXor (S .parties) (λ i. row len i rows)) (tested : test ≡ same (take 16 sums) ciphertext) where
+  abbrev all : List ℕ
+  all = sumXor (S .parties) (λ i. row (total (rowSizes S)) i rows)
+
   abbrev answer : Answer
-  answer = sumsAnswer S ciphertext e (sumXor (S .parties) (λ i. row (total (rowSizes S)) i rows))
+  answer = sumsAnswer S ciphertext e all
+
+  summed : sums ≡ all
+  summed = is ∙ ap (λ n. sumXor (S .parties) (λ i. row n i rows)) size
 
   answered : answer ≡ require test (ShareDiffers (S .parties)) (require (rowProductHolds S sums) (ProductDiffers e) Accepted)
   unfolding sumsAnswer field
-  answered = rw (tested, is, size)
+  answered = rw (tested, summed)
 
-  pub outputs-miss : not test ≡ true → ShareDiffers (S .parties) ≡ answer
+  pub outputs-miss : not test ≡ true → (ShareDiffers (S .parties) ≡ answer) × (sums ≡ all)
   unfolding require
-  outputs-miss h = sym (answered ∙ simp (not-true test h))
+  outputs-miss h = (sym (answered ∙ simp (not-true test h)), summed)
 
   module _ {holds : Bool} (p : holds ≡ rowProductHolds S sums) where
-    pub product-misses : not test ≡ false → not holds ≡ true → ProductDiffers e ≡ answer
+    pub product-misses : not test ≡ false → not holds ≡ true → (ProductDiffers e ≡ answer) × (sums ≡ all)
     unfolding require
-    product-misses h f = sym (answered ∙ simp (not-false test h, ← p, not-true holds f))
+    product-misses h f = (sym (answered ∙ simp (not-false test h, ← p, not-true holds f)), summed)
 
-    pub both-hold : not test ≡ false → not holds ≡ false → Accepted ≡ answer
+    pub both-hold : not test ≡ false → not holds ≡ false → (Accepted ≡ answer) × (sums ≡ all)
     unfolding require
-    both-hold h f = sym (answered ∙ simp (not-false test h, ← p, not-false holds f))
+    both-hold h f = (sym (answered ∙ simp (not-false test h, ← p, not-false holds f)), summed)

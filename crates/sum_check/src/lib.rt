@@ -30,6 +30,7 @@ pub fn check_sums(shape: Shape, ciphertext: &[u8], e: u8, rows: &[u8], sums: &mu
     requires { ⌜ Valid shape × (length (now rows) ≡ shape .parties * total (rowSizes shape)) × (length (now sums) ≡ total (rowSizes shape)) ⌝ }
     ensures { λ r. ⌜ r
         ≡ sumsAnswer shape (now (ciphertext .entry)) e (sumXor (shape .parties) (λ i. row (total (rowSizes shape)) i (now (rows .entry)))) ⌝ }
+    ensures { λ _. ⌜ now (sums .exit) ≡ sumXor (shape .parties) (λ i. row (total (rowSizes shape)) i (now (rows .entry))) ⌝ }
 {
     row_sums::sum_rows(shape.parties, rows, sums);
     if !slices::equal(&sums[0..16], ciphertext) {

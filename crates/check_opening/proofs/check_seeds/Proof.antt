@@ -60,7 +60,7 @@ returns c =
     let f = c .before .before .before .before in
     let d = shown f in
     let s = start d in (
-      commitment-refused (s .pre .0) (s .args .siblings .now) (s .args .hidden) (s .pre .1) (d .shown-seeds .ensures) (f .first-commitment .ensures)
+      commitment-refused (s .pre .0) (s .args .siblings .now) (s .args .hidden) (s .pre .1) (d .shown-seeds .ensures) (f .first-commitment .ensures .0)
           (c .if1 .taken),
       scratch1 f,
     )
@@ -98,8 +98,8 @@ returns-2 c =
     let f = committed r in
     let d = shown f in
     let s = start d in (
-      commitments-passed (s .pre .0) (s .args .siblings .now) (s .args .hidden) (s .pre .1) (d .shown-seeds .ensures) (f .first-commitment .ensures)
-          (r .before .if1 .left) (k .check-rows .ensures),
+      commitments-passed (s .pre .0) (s .args .siblings .now) (s .args .hidden) (s .pre .1) (d .shown-seeds .ensures) (f .first-commitment .ensures .0)
+          (r .before .if1 .left) (k .check-rows .ensures .0),
       scratch-then (scratch1 f)
           (scratch-front (2 * (n f * r .row-length .result)) (work1 f) (k .check-rows .last .1 .1 .1 .1 .1 .1 .1 .0) (omega (arith, most r))
           (omega (arith, scratch1 f .long, s .pre .3)) (k .check-rows .kept .1 .1 .1 .1 .1 .1 .1 .0)),

@@ -3,7 +3,7 @@ use mathlib.Core.Path.{_∙_}
 use native.Mathlib.Omega.{arith}
 use borrow.Author.Needs.{needs}
 use Rattle.stated.proofs.Laws.{transcript-fits, field-size}
-use Rattle.commitment_check.proofs.Commitments.{differing}
+use Rattle.commitment_check.proofs.Commitments.{all-hashed, differing}
 use Rattle.commitment_check.proofs.first_commitment.Statement.{statement}
 use Rattle.commitment_check.proofs.first_commitment.Tie as tie
 
@@ -55,8 +55,12 @@ returns c =
     let h = hashed (g .before) in
     let z = sized h in
     let s = start z in
-    differing (s .args .shape) (s .args .transcript .now) (s .args .seeds .now) (s .args .e) (s .args .hidden) (z .transcript-sizes .ensures)
-    (h .before .before .field .ensures) (g .field2 .ensures) (h .hash-rows .ensures) (c .first-difference .ensures)
+    let f = h .before .before in (
+      differing (s .args .shape) (s .args .transcript .now) (s .args .seeds .now) (s .args .e) (z .transcript-sizes .ensures) (f .field .ensures)
+          (h .hash-rows .ensures) (s .args .hidden) (g .field2 .ensures) (c .first-difference .ensures),
+      all-hashed (s .args .shape) (s .args .transcript .now) (s .args .seeds .now) (s .args .e) (z .transcript-sizes .ensures) (f .field .ensures)
+          (h .hash-rows .ensures),
+    )
 
 pub first-commitment-spec : {M : Type 1} → statement M
 first-commitment-spec =

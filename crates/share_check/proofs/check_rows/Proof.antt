@@ -1,4 +1,4 @@
--- `share_check::check_rows` meets its contract: the halves are read back and compared. Assumes nothing.
+-- `share_check::check_rows` meets its contract: the halves are read back and compared, and left as they are. Assumes nothing.
 use borrow.Author.Needs.{needs}
 use Rattle.share_check.proofs.Rows.{read-lengths, halves-checked}
 use Rattle.share_check.proofs.check_rows.Statement.{statement}
@@ -17,9 +17,11 @@ compare-rows-requires c κs =
 returns : tie.Need-returns
 returns c =
     let f = c .before .before .before .before .before .before .before in
-    let s = start f in
-    halves-checked (s .pre .0) (s .args .seeds .now) (f .fill-rows .last .1 .1 .1 .1 .1 .1 .0) (f .fill-rows .ensures) (s .args .hidden)
-    (c .compare-rows .ensures)
+    let s = start f in (
+      halves-checked (s .pre .0) (s .args .seeds .now) (f .fill-rows .last .1 .1 .1 .1 .1 .1 .0) (f .fill-rows .ensures) (s .args .hidden)
+          (c .compare-rows .ensures),
+      f .fill-rows .ensures,
+    )
 
 pub check-rows-spec : {M : Type 1} → statement M
 check-rows-spec =

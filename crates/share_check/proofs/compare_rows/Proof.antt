@@ -38,7 +38,7 @@ returns-2 c =
     let r = d .before in
     let s = start r in
     rows-agree (s .args .shape) (s .args .ciphertext .now) (s .args .e) (s .args .hidden) (s .args .made .now) (s .args .stated .now)
-    (r .row-length .ensures) (d .first-difference .ensures) (t .if1 .left) (k .check-sums .ensures)
+    (r .row-length .ensures) (d .first-difference .ensures) (t .if1 .left) (k .check-sums .ensures .0)
 
 pub compare-rows-spec : {M : Type 1} → statement M
 compare-rows-spec =

@@ -1,4 +1,4 @@
--- `sum_check::check_sums` meets its contract: the outputs are tested first, then the product. Assumes nothing.
+-- `sum_check::check_sums` meets its contract: the sums are left, the outputs are tested first, then the product. Assumes nothing.
 use mathlib.Core.Path.{sym, ap, _∙_}
 use Prim.Native.Nat.{_*_}
 use borrow.Author.Needs.{needs}
