@@ -36,7 +36,7 @@ fn next_round_key(k: [u8; 16], n: usize) -> [u8; 16]
 }
 
 // The expanded key, and into inputs what the key schedule's 40 S-boxes are given.
-pub fn expand(key: &[u8], inputs: &mut [u8]) -> [u8; 176]
+fn expand(key: &[u8], inputs: &mut [u8]) -> [u8; 176]
     requires { ⌜ length (now key) ≡ 16 ⌝ }
     requires { ⌜ length (now inputs) ≡ 40 ⌝ }
     ensures { λ r. ⌜ r ≡ keyExpansion (now (key .entry)) ⌝ }
@@ -54,7 +54,7 @@ pub fn expand(key: &[u8], inputs: &mut [u8]) -> [u8; 176]
 }
 
 // The ciphertext under an expanded key, and into inputs the states that SubBytes() is given in the ten rounds.
-pub fn encrypt_rounds(w: &[u8], plaintext: &[u8], inputs: &mut [u8]) -> [u8; 16]
+fn encrypt_rounds(w: &[u8], plaintext: &[u8], inputs: &mut [u8]) -> [u8; 16]
     requires { ⌜ length (now w) ≡ 176 ⌝ }
     requires { ⌜ length (now plaintext) ≡ 16 ⌝ }
     requires { ⌜ length (now inputs) ≡ 160 ⌝ }

@@ -22,7 +22,7 @@ fn prefixes(bits: u32, low: u64, x: u64, out: &mut [u64])
 }
 
 // Lagrange's values at x, for as many points as there are weights.
-pub fn values(bits: u32, low: u64, x: u64, weights: &[u64], out: &mut [u64])
+fn values(bits: u32, low: u64, x: u64, weights: &[u64], out: &mut [u64])
     requires { ⌜ Fits bits low × Element bits x × (length (now out) ≡ length (now weights))
         × Weights bits low (length (now weights)) (now weights) ⌝ }
     ensures { λ _. ⌜ now (out .exit) ≡ tab (lagrangeValue bits low (length (now (weights .entry))) x) (length (now (weights .entry))) ⌝ }
