@@ -25,9 +25,15 @@ OUTPUT_ROOM, WORK_ROOM = 2600, 65600
 read, written = [], []
 
 
-def put(line, *answer):
-    read.append(line)
-    written.append(' '.join([line[0], *map(str, answer)]))
+def put(kind, line, *answer):
+    read.append(kind + line.hex())
+    if answer:
+        written.append(' '.join([kind, *map(str, answer)]))
+
+
+def numbers(*pairs):
+    """Each with its count of bytes, low byte first."""
+    return b''.join(n.to_bytes(size, 'little') for size, n in pairs)
 
 
 def told(answer):
@@ -44,11 +50,11 @@ class Lent:
 
     def keys(self, key, public_key):
         self.key, self.public_key = key + b'\x55', public_key + b'\0'
-        put(f'k {self.key.hex()} {self.public_key.hex()}')
+        put('k', self.key + self.public_key)
 
     def seeds(self, salt, root, first):
         self.salt, self.root, self.first = salt + b'\x66', root + b'\x77', first + b'\x88'
-        put(f's {self.salt.hex()} {self.root.hex()} {self.first.hex()}')
+        put('s', self.salt + self.root + self.first)
 
     def open(self, e, second, hidden, k=16, p=32, s=32, r=16, f=40, output=OPENING, work=WORK):
         answer = oracle.open_execution(
@@ -57,23 +63,23 @@ class Lent:
         if verdict == (0, 0):
             self.opening = answer[1]
             made = [self.opening.hex()]
-        put(f'o {k:02} {p:02} {s:02} {r:02} {f:02} {e:04} {second:010} {hidden:04} {output:04} {work:05}',
+        put('o', numbers((1, k), (1, p), (1, s), (1, r), (1, f), (2, e), (4, second), (2, hidden), (2, output), (3, work)),
             *verdict, *work_after(verdict[0]), OUTPUT_ROOM, *made)
         return verdict
 
     def verify(self, changes=(), p=32, work=WORK):
         altered = tamper.apply(self.opening, changes)
         # a byte more, and what is added to four bytes, twice
-        now, added = self.opening + b'\0', []
+        now, added = self.opening + b'\0', b''
         for _ in range(2):
             differ = [i for i, (a, b) in enumerate(zip(now, altered)) if a != b]
             at = min(differ[0], OPENING - 3) if differ else 0
             new = (altered + now[len(altered):])[at:at + 4]
-            added.append(f'{at:04} {oracle.xor_bytes(now[at:at + 4], new).hex()}')
+            added += numbers((2, at)) + oracle.xor_bytes(now[at:at + 4], new)
             now = now[:at] + new + now[at + 4:]
         assert now[:len(altered)] == altered
         verdict = told(oracle.check_opening(self.public_key[:p], altered, work))
-        put(f'v {p:02} {len(altered):04} {work:05} {added[0]} {added[1]}', *verdict, *work_after(verdict[0]))
+        put('v', numbers((1, p), (2, len(altered)), (3, work)) + added, *verdict, *work_after(verdict[0]))
         return verdict
 
 
@@ -216,8 +222,8 @@ for at in 0, 16, 31:
 refuse_key(bytes.fromhex(vectors[1]['key']), PUBLIC_KEY, (12, 0))
 refuse_key_last()
 
-# the program's buffer
-assert sum(len(line) + 1 for line in read) <= 65536
+# the program reads so many lines
+assert len(read) < 2000
 for name, lines in ('stdin', read), ('stdout', written):
     with open(os.path.join('crates/vectors_opening', name), 'w') as out:
         out.writelines(line + '\n' for line in lines)

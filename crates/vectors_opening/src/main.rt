@@ -1,17 +1,19 @@
-// Opens executions and checks openings. A line of input has a kind, which gives its length, and is answered by a line that begins with the kind:
-// k  key and public key: 17 and 33 bytes in hexadecimal.
-// s  salt, root seed and first challenge: 33, 17 and 41 bytes.
-// o  An execution is opened: how many bytes of key, public key, salt, root seed and first challenge are lent, the execution, the second challenge,
-//    the hidden party, and how many bytes of output and of work are lent. Written are the answer's number and place, where the work's zeros end,
-//    where its ee after them end, and where the output's ee end; where it succeeds also the opening, which the lines v are about from then on.
-// v  The opening is checked: how many bytes of public key, opening and work are lent, and twice an index of the opening and four bytes that are
-//    added there. Written are number, place and the two ends of work.
+// Opens executions and checks openings. A line of input is a kind and bytes in hexadecimal, as many as the kind has; a number takes its bytes low
+// byte first. The lines o and v are answered by a line that begins with the kind.
+// k  Key and public key: 17 and 33 bytes.
+// s  Salt, root seed and first challenge: 33, 17 and 41 bytes.
+// o  An execution is opened: how many bytes of key, public key, salt, root seed and first challenge are lent (1 byte each), the execution (2), the
+//    second challenge (4), the hidden party (2), and how many bytes of output (2) and of work (3) are lent. Written are the answer's number and
+//    place, where the work's zeros end, where its ee after them end, and where the output's ee end; where it succeeds also the opening, which the
+//    lines v are about from then on.
+// v  The opening is checked: how many bytes of public key (1), opening (2) and work (3) are lent, and twice an index of the opening (2) and four
+//    bytes that are added there. Written are number, place and the two ends of work.
 // Before a call output and work are ee throughout. vectors/opening.py says where the lines are from.
 use banquet::Answer;
 use libc::STDIN_FILENO;
 use libc::STDOUT_FILENO;
 ghost use mathlib.Core.Path.{_≡_};
-ghost use Prim.Native.Nat.{_*_, _<_, _≤_};
+ghost use Prim.Native.Nat.{_+_, _*_, _≤_};
 ghost use lib.ListN.{length};
 
 // Of which a work slice is the first part.
@@ -48,28 +50,12 @@ fn end_line() {
     io::write_all(STDOUT_FILENO, b"\n");
 }
 
-fn value(text: u8) -> usize
-    ensures { λ r. ⌜ r < 16 ⌝ }
-{
-    (hex::digit(text) % 16) as usize
-}
-
-// The number that decimal digits say, modulo 2^32.
-fn number(text: &[u8]) -> usize
-    ensures { λ r. ⌜ r < 4294967296 ⌝ }
-{
-    let mut n: usize = 0;
-    for i in 0..text.len() {
-        n = (n * 10 + value(text[i])) % 4294967296;
-    }
-    n
-}
-
-// That number, or the most where it is less.
-fn size(text: &[u8], most: usize) -> usize
+// The number of w bytes of the line at index at, or the most where it is less.
+fn size(line: &[u8], at: usize, w: usize, most: usize) -> usize
+    requires { ⌜ (w ≤ 8) × (at + w ≤ length (now line)) ⌝ }
     ensures { λ r. ⌜ r ≤ most ⌝ }
 {
-    let n = number(text);
+    let n = numbers::load(line, at, w) as usize;
     if most < n {
         return most;
     }
@@ -102,21 +88,6 @@ fn tell_answer(answer: Answer, work: &[u8]) -> usize {
     verdict.number as usize
 }
 
-fn take_keys(line: &[u8], inputs: &mut [u8])
-    requires { ⌜ (length (now line) ≡ 104) × (length (now inputs) ≡ 141) ⌝ }
-{
-    hex::decode(&line[2..36], &mut inputs[0..17]);
-    hex::decode(&line[37..103], &mut inputs[17..50]);
-}
-
-fn take_seeds(line: &[u8], inputs: &mut [u8])
-    requires { ⌜ (length (now line) ≡ 187) × (length (now inputs) ≡ 141) ⌝ }
-{
-    hex::decode(&line[2..68], &mut inputs[50..83]);
-    hex::decode(&line[69..103], &mut inputs[83..100]);
-    hex::decode(&line[104..186], &mut inputs[100..141]);
-}
-
 fn call_open(
     line: &[u8],
     key: &[u8],
@@ -127,13 +98,13 @@ fn call_open(
     output: &mut [u8],
     work: &mut [u8],
 ) -> Answer
-    requires { ⌜ (length (now line) ≡ 49) × (length (now output) ≡ 2600) × (length (now work) ≡ 65600) ⌝ }
+    requires { ⌜ (length (now line) ≡ 18) × (length (now output) ≡ 2600) × (length (now work) ≡ 65600) ⌝ }
 {
-    let e = number(&line[17..21]);
-    let second = number(&line[22..32]) as u32;
-    let hidden = number(&line[33..37]);
-    let n = size(&line[38..42], 2600);
-    let w = size(&line[43..48], 65600);
+    let e = numbers::load(line, 5, 2) as usize;
+    let second = (numbers::load(line, 7, 4) % 4294967296) as u32;
+    let hidden = numbers::load(line, 11, 2) as usize;
+    let n = size(line, 13, 2, 2600);
+    let w = size(line, 15, 3, 65600);
     openings::open(
         key,
         public_key,
@@ -149,13 +120,13 @@ fn call_open(
 }
 
 fn make(line: &[u8], inputs: &[u8], output: &mut [u8], work: &mut [u8]) -> Answer
-    requires { ⌜ (length (now line) ≡ 49) × (length (now inputs) ≡ 141) × (length (now output) ≡ 2600) × (length (now work) ≡ 65600) ⌝ }
+    requires { ⌜ (length (now line) ≡ 18) × (length (now inputs) ≡ 141) × (length (now output) ≡ 2600) × (length (now work) ≡ 65600) ⌝ }
 {
-    let k = size(&line[2..4], 17);
-    let p = 17 + size(&line[5..7], 33);
-    let s = 50 + size(&line[8..10], 33);
-    let r = 83 + size(&line[11..13], 17);
-    let f = 100 + size(&line[14..16], 41);
+    let k = size(line, 0, 1, 17);
+    let p = 17 + size(line, 1, 1, 33);
+    let s = 50 + size(line, 2, 1, 33);
+    let r = 83 + size(line, 3, 1, 17);
+    let f = 100 + size(line, 4, 1, 41);
     call_open(
         line,
         &inputs[0..k],
@@ -169,7 +140,7 @@ fn make(line: &[u8], inputs: &[u8], output: &mut [u8], work: &mut [u8]) -> Answe
 }
 
 fn open(line: &[u8], inputs: &[u8], opening: &mut [u8])
-    requires { ⌜ (length (now line) ≡ 49) × (length (now inputs) ≡ 141) × (length (now opening) ≡ 2555) ⌝ }
+    requires { ⌜ (length (now line) ≡ 18) × (length (now inputs) ≡ 141) × (length (now opening) ≡ 2555) ⌝ }
 {
     let mut output = [0xeeu8; 2600];
     let mut work = room();
@@ -184,77 +155,97 @@ fn open(line: &[u8], inputs: &[u8], opening: &mut [u8])
     }
 }
 
-// Four bytes added to the opening: an index of four digits, a space, and the bytes.
-fn change(text: &[u8], opening: &mut [u8])
-    requires { ⌜ (length (now text) ≡ 13) × (length (now opening) ≡ 2555) ⌝ }
+// Four bytes of the line, behind an index, are added to the opening there.
+fn change(line: &[u8], at: usize, opening: &mut [u8])
+    requires { ⌜ (length (now line) ≡ 18) × (at + 6 ≤ 18) × (length (now opening) ≡ 2555) ⌝ }
 {
-    let mut bytes = [0u8; 4];
-    hex::decode(&text[5..13], &mut bytes);
-    let at = size(&text[0..4], 2551);
-    slices::xor_into(&mut opening[at..at + 4], &bytes);
+    let to = size(line, at, 2, 2551);
+    slices::xor_into(&mut opening[to..to + 4], &line[at + 2..at + 6]);
 }
 
 fn call_verify(line: &[u8], inputs: &[u8], opening: &[u8], work: &mut [u8]) -> Answer
-    requires { ⌜ (length (now line) ≡ 44) × (length (now inputs) ≡ 141) × (length (now opening) ≡ 2555) × (length (now work) ≡ 65600) ⌝ }
+    requires { ⌜ (length (now line) ≡ 18) × (length (now inputs) ≡ 141) × (length (now opening) ≡ 2555) × (length (now work) ≡ 65600) ⌝ }
 {
-    let p = 17 + size(&line[2..4], 33);
-    let n = size(&line[5..9], 2555);
-    let w = size(&line[10..15], 65600);
+    let p = 17 + size(line, 0, 1, 33);
+    let n = size(line, 1, 2, 2555);
+    let w = size(line, 3, 3, 65600);
     openings::verify_opening(&inputs[17..p], &opening[0..n], &mut work[0..w])
 }
 
 fn verify(line: &[u8], inputs: &[u8], opening: &[u8])
-    requires { ⌜ (length (now line) ≡ 44) × (length (now inputs) ≡ 141) × (length (now opening) ≡ 2555) ⌝ }
+    requires { ⌜ (length (now line) ≡ 18) × (length (now inputs) ≡ 141) × (length (now opening) ≡ 2555) ⌝ }
 {
     let mut changed = [0u8; 2555];
     slices::copy(&mut changed, opening);
-    change(&line[16..29], &mut changed);
-    change(&line[30..43], &mut changed);
+    change(line, 6, &mut changed);
+    change(line, 12, &mut changed);
     let mut work = room();
     let answer = call_verify(line, inputs, &changed, &mut work);
     tell_answer(answer, &work);
 }
 
-fn answer(line: &[u8], inputs: &mut [u8], opening: &mut [u8])
-    requires { ⌜ (length (now inputs) ≡ 141) × (length (now opening) ≡ 2555) ⌝ }
+// The line's bytes: digits and the line end are read.
+fn read(text: &mut [u8], out: &mut [u8])
+    requires { ⌜ length (now text) ≡ 2 * length (now out) + 1 ⌝ }
 {
-    if line.len() == 104 {
-        take_keys(line, inputs);
-    } else if line.len() == 187 {
-        take_seeds(line, inputs);
-    } else if line.len() == 49 {
-        open(line, inputs, opening);
-    } else if line.len() == 44 {
-        verify(line, inputs, opening);
-    }
+    io::read_full(STDIN_FILENO, text);
+    let end = text.len() - 1;
+    hex::decode(&text[0..end], out);
 }
 
-// How many bytes the lines of this kind have.
-fn width(kind: u8) -> usize
-    ensures { λ r. ⌜ (0 < r) × (r ≤ 187) ⌝ }
+// The kind of the next line, or 0 where there is none.
+fn kind() -> u8 {
+    let mut byte = [0u8; 1];
+    io::read_full(STDIN_FILENO, &mut byte);
+    byte[0]
+}
+
+fn answer_open(inputs: &[u8], opening: &mut [u8])
+    requires { ⌜ (length (now inputs) ≡ 141) × (length (now opening) ≡ 2555) ⌝ }
 {
-    match kind {
-        b'k' => 104,
-        b's' => 187,
-        b'o' => 49,
-        _ => 44,
+    let mut text = [0u8; 37];
+    let mut line = [0u8; 18];
+    read(&mut text, &mut line);
+    io::write_all(STDOUT_FILENO, b"o");
+    open(&line, inputs, opening);
+    end_line();
+}
+
+fn answer_verify(inputs: &[u8], opening: &[u8])
+    requires { ⌜ (length (now inputs) ≡ 141) × (length (now opening) ≡ 2555) ⌝ }
+{
+    let mut text = [0u8; 37];
+    let mut line = [0u8; 18];
+    read(&mut text, &mut line);
+    io::write_all(STDOUT_FILENO, b"v");
+    verify(&line, inputs, opening);
+    end_line();
+}
+
+// One line of this kind.
+fn answer(kind: u8, inputs: &mut [u8], opening: &mut [u8])
+    requires { ⌜ (length (now inputs) ≡ 141) × (length (now opening) ≡ 2555) ⌝ }
+{
+    let mut text = [0u8; 183];
+    if kind == b'k' {
+        read(&mut text[0..101], &mut inputs[0..50]);
+    } else if kind == b's' {
+        read(&mut text, &mut inputs[50..141]);
+    } else if kind == b'o' {
+        answer_open(inputs, opening);
+    } else {
+        answer_verify(inputs, opening);
     }
 }
 
 fn main() {
-    let mut text = io::large_buffer();
-    let n = io::read_full(STDIN_FILENO, &mut text);
     let mut inputs = [0u8; 141];
     let mut opening = [0u8; 2555];
-    let mut at = 0;
-    while at < n {
-        let end = at + width(text[at]);
-        if n < end {
+    for _ in 0..2000usize {
+        let kind = kind();
+        if kind == 0 {
             return;
         }
-        io::write_all(STDOUT_FILENO, &text[at..at + 1]);
-        answer(&text[at..end], &mut inputs, &mut opening);
-        end_line();
-        at = end;
+        answer(kind, &mut inputs, &mut opening);
     }
 }

@@ -7,17 +7,13 @@ use Rattle.vectors_opening.proofs.main.Statement.{statement}
 use Rattle.vectors_opening.proofs.main.Tie as tie
 
 abbrev Inv-loop : tie.InvT-loop
-Inv-loop text n inputs₀ opening₀ at₀ inputs opening at =
-    (at ≤ n) × (n ≤ 65536) × (length text ≡ 65536) × (length inputs ≡ 141) × (length opening ≡ 2555)
+Inv-loop inputs₀ opening₀ counter₀ inputs opening counter = (counter ≤ 2000) × (length inputs ≡ 141) × (length opening ≡ 2555)
 
 abbrev μ-loop : tie.MeasureT-loop
-μ-loop text n inputs₀ opening₀ at₀ inputs opening at = n - at
+μ-loop inputs₀ opening₀ counter₀ inputs opening counter = 2000 - counter
 
 pub main-spec : {M : Type 1} → statement M
 main-spec =
     tie.close
-    (tie.spec Inv-loop μ-loop (λ c κs. search needs) (λ c. search needs) (λ c κs. search needs) (λ c. search needs) (λ c. search needs)
-    (λ c κs. search needs) (λ c. search needs) (λ c. search needs) (λ c. search needs) (λ c. search needs) (λ c. search needs)
-    (λ c. search needs) (λ c κs. search needs) (λ c. search needs) (λ c. search needs) (λ c. search needs) (λ c. search needs)
-    (λ c. search needs) (λ c κs. search needs) (λ c κs. search needs) (λ c. search needs) (λ c. search needs)
-    (λ c. search needs))
+    (tie.spec Inv-loop μ-loop (λ c. search needs) (λ c κs. search needs) (λ c. search needs) (λ c. search needs) (λ c. search needs)
+    (λ c κs. search needs) (λ c. search needs) (λ c. search needs) (λ c. search needs) (λ c. search needs))
