@@ -30,8 +30,8 @@ fn shown_seeds(
     ensures { λ _. ⌜ now (out .exit)
         ≡ nodeSeeds (shownLeaves shake128 (saltOf (aesScheme shape) (now (transcript .entry))) e (shape .depth) 0 (now (siblings .entry)) hidden) ⌝ }
 {
-    let sizes = sets::transcript_sizes(shape);
-    tree::expand_shown(
+    let sizes = opening_sizes::transcript_sizes(shape);
+    shown::expand_shown(
         shape.depth,
         fields::field(&sizes, 0, transcript),
         e,
@@ -126,7 +126,7 @@ fn second_of(shape: Shape, transcript: &[u8]) -> u64
     requires { ⌜ Valid shape × (length (now transcript) ≡ total (transcriptSizes shape)) ⌝ }
     ensures { λ r. ⌜ r ≡ secondOf (aesScheme shape) (now (transcript .entry)) ⌝ }
 {
-    let sizes = sets::transcript_sizes(shape);
+    let sizes = opening_sizes::transcript_sizes(shape);
     let at = fields::offset(&sizes, 8);
     numbers::load(transcript, at, shape.wide)
 }
@@ -173,7 +173,7 @@ pub fn check(shape: Shape, public: &[u8], opening: &[u8], work: &mut [u8]) -> An
     if public.len() != 32 {
         return Answer::PublicKeyLength;
     }
-    let sizes = sets::transcript_sizes(shape);
+    let sizes = opening_sizes::transcript_sizes(shape);
     let end = fields::offset(&sizes, 12);
     let whole = end + 1 + 16 * shape.depth;
     if opening.len() != whole {

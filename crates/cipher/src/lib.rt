@@ -4,25 +4,15 @@ ghost use mathlib.Core.List.{map};
 ghost use Prim.Native.Nat.{_<_};
 ghost use lib.ListN.{length};
 ghost use Rattle.slices.specs.Lists.{rows};
-ghost use Rattle.field.specs.Byte.{inverse8};
 ghost use Rattle.aes.specs.Aes.{sbox, add, rcon, subWord, nextKey, keyInput, roundKey, keyExpansion, entering, cipher, aes};
-ghost use Rattle.aes.specs.Aes.{keyInputs, sboxInputs, firstZero};
-
-// Puts its inverse in place of each byte, 0 for 0.
-pub fn invert(s: &mut [u8])
-    ensures { λ _. ⌜ now (s .exit) ≡ map inverse8 (now (s .entry)) ⌝ }
-{
-    for i in 0..s.len() {
-        s[i] = gf::inverse(s[i]);
-    }
-}
+ghost use Rattle.aes.specs.Aes.{keyInputs, sboxInputs};
 
 // SubBytes() and SubWord(): the S-box of each byte.
 fn substitute(s: &mut [u8])
     ensures { λ _. ⌜ now (s .exit) ≡ map sbox (now (s .entry)) ⌝ }
 {
-    invert(s);
-    steps::affine(s, 0x63);
+    sbox_inputs::invert(s);
+    affine::affine(s, 0x63);
 }
 
 // The round key after round key n, which is k.
@@ -43,7 +33,7 @@ fn expand(key: &[u8], inputs: &mut [u8]) -> [u8; 176]
     ensures { λ _. ⌜ now (inputs .exit) ≡ keyInputs (roundKey (now (key .entry))) ⌝ }
 {
     let mut w = [0u8; 176];
-    let mut k = steps::block_at(key, 0);
+    let mut k = blocks::block_at(key, 0);
     for n in 0..10 {
         slices::copy_at(inputs, n * 4, &key_schedule::key_input(k));
         slices::copy_at(&mut w, n * 16, &k);
@@ -61,15 +51,15 @@ fn encrypt_rounds(w: &[u8], plaintext: &[u8], inputs: &mut [u8]) -> [u8; 16]
     ensures { λ r. ⌜ r ≡ cipher (now (w .entry)) (now (plaintext .entry)) ⌝ }
     ensures { λ _. ⌜ now (inputs .exit) ≡ rows (entering (now (w .entry)) (now (plaintext .entry))) 10 ⌝ }
 {
-    let mut x = steps::add_blocks(steps::block_at(plaintext, 0), steps::block_at(w, 0));
+    let mut x = blocks::add_blocks(blocks::block_at(plaintext, 0), blocks::block_at(w, 0));
     for n in 0..9 {
         slices::copy_at(inputs, n * 16, &x);
         substitute(&mut x);
-        x = steps::round(x, steps::block_at(w, n + 1));
+        x = steps::round(x, blocks::block_at(w, n + 1));
     }
     slices::copy_at(inputs, 144, &x);
     substitute(&mut x);
-    steps::last_round(x, steps::block_at(w, 10))
+    steps::last_round(x, blocks::block_at(w, 10))
 }
 
 // The ciphertext, and into inputs what the 200 S-boxes are given.
@@ -82,16 +72,4 @@ pub fn encrypt(key: &[u8], plaintext: &[u8], inputs: &mut [u8]) -> [u8; 16]
 {
     let w = expand(key, &mut inputs[0..40]);
     encrypt_rounds(&w, plaintext, &mut inputs[40..])
-}
-
-// The index of the first zero, or the length where there is none.
-pub fn first_zero(s: &[u8]) -> usize
-    ensures { λ r. ⌜ r ≡ firstZero (now (s .entry)) ⌝ }
-{
-    for i in 0..s.len() {
-        if s[i] == 0 {
-            return i;
-        }
-    }
-    s.len()
 }

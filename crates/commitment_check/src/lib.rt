@@ -33,7 +33,7 @@ pub fn first_commitment(
         ≡ rows (λ i. commitment (aesScheme shape) (saltOf (aesScheme shape) (now (transcript .entry))) e i (row 16 i (now (seeds .entry))))
         (shape .parties) ⌝ }
 {
-    let sizes = sets::transcript_sizes(shape);
+    let sizes = opening_sizes::transcript_sizes(shape);
     party::hash_rows(
         0,
         fields::field(&sizes, 0, transcript),

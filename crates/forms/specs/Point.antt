@@ -9,7 +9,7 @@ use Rattle.poly.specs.Sum.{sum}
 use Rattle.field.specs.Ring.{mul}
 use Rattle.field.specs.Wide.{ops}
 use Rattle.lagrange.specs.Values.{lagrangeValue}
-use Rattle.dots.specs.Tables.{tableOf, tabled}
+use Rattle.tables.specs.Tables.{tableOf, tabled}
 use Rattle.banquet.specs.declared.Shape.{Shape}
 use Rattle.banquet.specs.Shape.{sboxAt}
 use Rattle.banquet.specs.Scheme.{wideOps, wideMul, lifted}

@@ -16,7 +16,7 @@ use Rattle.poly.specs.Sum.{sum, sum-suc, sum-cong, sum-mul}
 use Rattle.poly.specs.Balance.{valuesS, valuesT, valuesP}
 use Rattle.field.specs.Ring.{mul}
 use Rattle.lagrange.specs.Values.{interpolated, sum-interpolated}
-use Rattle.dots.specs.Tables.{tabled-dot}
+use Rattle.tables.specs.Tables.{tabled-dot}
 use Rattle.banquet.specs.declared.Shape.{Shape}
 use Rattle.banquet.specs.Shape.{sboxAt}
 use Rattle.banquet.specs.Scheme.{wideOps, Wide, lifted}

@@ -172,7 +172,7 @@ pub fn make(
     let mut seeds = [0u8; 2048];
     let end = sets::leaf_bytes(shape);
     let rows = shape.parties * sets::row_length(shape);
-    let size = sets::opening_length(shape);
+    let size = opening_sizes::opening_length(shape);
     make_rows(
         shape,
         key,

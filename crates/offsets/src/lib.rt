@@ -67,9 +67,9 @@ fn product(shape: Shape, first: &[u64], extra: &[u64], u: &[u64], v: &[u64], las
 {
     let bits = (8 * shape.wide) as u32;
     let mut s = [0u64; 10];
-    opened::values_s(shape, first, u, extra, last, &mut s);
+    st_values::values_s(shape, first, u, extra, last, &mut s);
     let mut t = [0u64; 10];
-    opened::values_t(shape, v, extra, last, &mut t);
+    st_values::values_t(shape, v, extra, last, &mut t);
     dots::dot(bits, shape.low, &t, &s)
 }
 

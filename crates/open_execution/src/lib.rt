@@ -38,7 +38,7 @@ fn open_key(
 {
     let mut inputs = [0u8; 200];
     let ciphertext = cipher::encrypt(key, &public[0..16], &mut inputs);
-    let zero = cipher::first_zero(&inputs[0..200]);
+    let zero = sbox_inputs::first_zero(&inputs[0..200]);
     if zero < 200 {
         return Answer::ZeroInput(zero as u8);
     }
@@ -46,7 +46,7 @@ fn open_key(
         return Answer::WrongKey;
     }
     let mut inverses = inputs;
-    cipher::invert(&mut inverses);
+    sbox_inputs::invert(&mut inverses);
     make_opening::make(
         shape,
         key,
@@ -156,7 +156,7 @@ pub fn open_execution(
     if root.len() != 16 {
         return Answer::SeedLength;
     }
-    if out.len() < sets::opening_length(shape) {
+    if out.len() < opening_sizes::opening_length(shape) {
         return Answer::FileLength;
     }
     if work.len() < 65536 {

@@ -1,11 +1,10 @@
-// The numbers of one execution: what the tables give for its bytes, the values of S_j and T_j at a point, and sums.
+// The numbers of one execution: what the tables give for its bytes, and sums.
 use banquet::Shape;
 ghost use mathlib.Core.Path.{_≡_};
-ghost use Prim.Native.Nat.{_+_, _*_};
 ghost use lib.ListN.{length, getD};
 ghost use Rattle.slices.specs.Lists.{tab};
 ghost use Rattle.sets.specs.Valid.{Valid};
-ghost use Rattle.forms.specs.Point.{tabledRow, valueS, valueT, xorSum};
+ghost use Rattle.forms.specs.Point.{tabledRow, xorSum};
 
 // The sum of elements.
 pub fn sum(s: &[u64]) -> u64
@@ -25,39 +24,5 @@ pub fn rows(shape: Shape, bytes: &[u8], tables: &[u64], out: &mut [u64])
 {
     for j in 0..out.len() {
         out[j] = dots::dot_tables(tables, bytes, shape.m2, shape.m1, j);
-    }
-}
-
-// S_j at a point for each j, from the first challenge, the rows, the extra points (s and t for each j) and Lagrange's value for them.
-pub fn values_s(
-    shape: Shape,
-    first: &[u64],
-    rows: &[u64],
-    extra: &[u64],
-    last: u64,
-    out: &mut [u64],
-)
-    requires { ⌜ Valid shape × (length (now first) ≡ 10) × (length (now rows) ≡ 10) × (length (now extra) ≡ 20)
-        × (length (now out) ≡ 10) ⌝ }
-    ensures { λ _. ⌜ now (out .exit)
-        ≡ tab (λ j. valueS shape (getD (now (first .entry)) j 0) (getD (now (rows .entry)) j 0) (getD (now (extra .entry)) (2 * j) 0) last)
-        10 ⌝ }
-{
-    let bits = (8 * shape.wide) as u32;
-    for j in 0..out.len() {
-        let scaled = gf::mul(bits, shape.low, first[j], rows[j]);
-        out[j] = scaled ^ gf::mul(bits, shape.low, extra[2 * j], last);
-    }
-}
-
-// T_j at a point for each j.
-pub fn values_t(shape: Shape, rows: &[u64], extra: &[u64], last: u64, out: &mut [u64])
-    requires { ⌜ Valid shape × (length (now rows) ≡ 10) × (length (now extra) ≡ 20) × (length (now out) ≡ 10) ⌝ }
-    ensures { λ _. ⌜ now (out .exit)
-        ≡ tab (λ j. valueT shape (getD (now (rows .entry)) j 0) (getD (now (extra .entry)) (2 * j + 1) 0) last) 10 ⌝ }
-{
-    let bits = (8 * shape.wide) as u32;
-    for j in 0..out.len() {
-        out[j] = rows[j] ^ gf::mul(bits, shape.low, extra[2 * j + 1], last);
     }
 }

@@ -7,6 +7,7 @@ use lib.ListN.{length, take, drop, length-append, drop-of-length-le}
 use lib.Seq.{take-at, drop-at}
 use borrow.Rule.Slice.PartMut.{putMid}
 use Rattle.slices.specs.Lists.{row}
+use Rattle.slices.proofs.Rows.{row-cut}
 use Rattle.shake.specs.Laws.{length-shake}
 use Rattle.party.specs.Party.{partyHash}
 
@@ -31,10 +32,6 @@ buffer a tag m q {s} {t} e f h k =
 pub length-hash : (tag : ℕ) (salt : List ℕ) (e i : ℕ) (seed : List ℕ) (size : ℕ) → length (partyHash tag salt e i seed size) ≡ size
 unfolding partyHash
 length-hash tag salt e i seed size = length-shake (tag ∷ (salt ++ e ∷ i ∷ seed)) size
-
--- what the code writes `&s[i * k..i * k + k]`
-pub row-cut : (i k : ℕ) (s : List ℕ) → take (i * k + k - i * k) (drop (i * k) s) ≡ row k i s
-row-cut i k s = let e : i * k + k - i * k ≡ k = omega arith in rw e
 
 -- y is the hash of row i of the seeds
 pub row-hashed : (tag : ℕ) (salt : List ℕ) (e i : ℕ) (seeds : List ℕ) {size len : ℕ} {y : List ℕ} → size ≡ len

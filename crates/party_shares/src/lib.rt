@@ -115,7 +115,7 @@ fn opened_a(
     let mut rows = [0u64; 10];
     opened::rows(shape, inputs, tables, &mut rows);
     let mut values = [0u64; 10];
-    opened::values_s(shape, first, &rows, extra, last, &mut values);
+    st_values::values_s(shape, first, &rows, extra, last, &mut values);
     elements::store(shape.wide, &values, out);
 }
 
@@ -130,7 +130,7 @@ fn opened_b(shape: Shape, tables: &[u64], last: u64, inverses: &[u8], extra: &[u
     let mut rows = [0u64; 10];
     opened::rows(shape, inverses, tables, &mut rows);
     let mut values = [0u64; 10];
-    opened::values_t(shape, &rows, extra, last, &mut values);
+    st_values::values_t(shape, &rows, extra, last, &mut values);
     elements::store(shape.wide, &values, out);
 }
 

@@ -12,7 +12,7 @@ use Rattle.slices.specs.Tab.{getD-tab, rows-cong}
 use Rattle.field.specs.Wide32.{low32, powers32}
 use Rattle.field.specs.Wide48.{low48, powers48}
 use Rattle.lagrange.specs.Values.{lagrangeValue}
-use Rattle.dots.specs.Tables.{tableOf}
+use Rattle.tables.specs.Tables.{tableOf}
 use Rattle.banquet.specs.declared.Shape.{Shape}
 use Rattle.sets.specs.Valid.{Valid}
 use Rattle.sets.specs.Laws.{powersOf}

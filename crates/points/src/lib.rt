@@ -37,9 +37,9 @@ fn powers(shape: Shape) -> [u64; 8]
     ensures { λ r. ⌜ r ≡ powersOf shape ⌝ }
 {
     if shape.wide == 4 {
-        return gf::powers32();
+        return lifts::powers32();
     }
-    gf::powers48()
+    lifts::powers48()
 }
 
 // Into out the tables of Lagrange's values at x for the points 0 to 19; the value for point 20.
@@ -52,6 +52,6 @@ pub fn tables(shape: Shape, x: u64, out: &mut [u64]) -> u64
     let mut values = [0u64; 21];
     near_values(shape, x, &mut values);
     let p = powers(shape);
-    dots::tables(bits, shape.low, &p, &values[0..20], out);
+    tables::tables(bits, shape.low, &p, &values[0..20], out);
     values[20]
 }

@@ -15,7 +15,7 @@ fn encrypt_to(key: &[u8], plaintext: &[u8], output: &mut [u8]) -> Answer
 {
     let mut inputs = [0u8; 200];
     let ciphertext = cipher::encrypt(key, plaintext, &mut inputs);
-    let zero = cipher::first_zero(&inputs[0..200]);
+    let zero = sbox_inputs::first_zero(&inputs[0..200]);
     if zero < 200 {
         return Answer::ZeroInput(zero as u8);
     }

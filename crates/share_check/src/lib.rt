@@ -29,7 +29,7 @@ fn made_rows(
     ensures { λ _. ⌜ now (out .exit)
         ≡ rowsOf (madeRow shape (now (public .entry)) (now (transcript .entry)) (now (seeds .entry))) (shape .parties) ⌝ }
 {
-    let sizes = sets::transcript_sizes(shape);
+    let sizes = opening_sizes::transcript_sizes(shape);
     execution::share_rows(
         shape,
         fields::field(&sizes, 0, transcript),

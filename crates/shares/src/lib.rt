@@ -6,7 +6,7 @@ ghost use Rattle.slices.specs.Lists.{rows};
 ghost use Rattle.field.specs.Byte.{mul8};
 ghost use Rattle.aes.specs.Aes.{add, word, rcon, nextKey, keyInputs};
 ghost use Rattle.circuit.specs.Circuit.{share, public, sboxOutputs, roundKeyShare, expansionShare, enteringShare, cipherShare};
-ghost use Rattle.circuit.specs.Circuit.{inputShares, outputShare, evenMansourInputShares, evenMansourOutputShare};
+ghost use Rattle.circuit.specs.Circuit.{inputShares, outputShare};
 
 // A party's share of the public byte c.
 fn public_byte(one: u8, c: u8) -> u8
@@ -36,7 +36,7 @@ fn sbox_outputs(one: u8, inverses: &[u8], out: &mut [u8])
     ensures { λ _. ⌜ now (out .exit) ≡ sboxOutputs (length (now (inverses .entry))) one (now (inverses .entry)) ⌝ }
 {
     slices::copy(out, inverses);
-    steps::affine(out, public_byte(one, 0x63));
+    affine::affine(out, public_byte(one, 0x63));
 }
 
 // The share of the round key after round key n, whose share is k.
@@ -61,7 +61,7 @@ fn schedule(one: u8, key: &[u8], z: &[u8], inputs: &mut [u8]) -> [u8; 176]
     ensures { λ _. ⌜ now (inputs .exit) ≡ keyInputs (roundKeyShare one (now (key .entry)) (now (z .entry))) ⌝ }
 {
     let mut w = [0u8; 176];
-    let mut k = steps::block_at(key, 0);
+    let mut k = blocks::block_at(key, 0);
     for n in 0..10 {
         slices::copy_at(inputs, n * 4, &key_schedule::key_input(k));
         slices::copy_at(&mut w, n * 16, &k);
@@ -81,13 +81,13 @@ fn rounds(w: &[u8], p: &[u8], z: &[u8], inputs: &mut [u8]) -> [u8; 16]
     ensures { λ r. ⌜ r ≡ cipherShare (now (w .entry)) (now (z .entry)) ⌝ }
     ensures { λ _. ⌜ now (inputs .exit) ≡ rows (enteringShare (now (w .entry)) (now (p .entry)) (now (z .entry))) 10 ⌝ }
 {
-    let mut x = steps::add_blocks(steps::block_at(p, 0), steps::block_at(w, 0));
+    let mut x = blocks::add_blocks(blocks::block_at(p, 0), blocks::block_at(w, 0));
     for n in 0..9 {
         slices::copy_at(inputs, n * 16, &x);
-        x = steps::round(steps::block_at(z, n), steps::block_at(w, n + 1));
+        x = steps::round(blocks::block_at(z, n), blocks::block_at(w, n + 1));
     }
     slices::copy_at(inputs, 144, &x);
-    steps::last_round(steps::block_at(z, 9), steps::block_at(w, 10))
+    steps::last_round(blocks::block_at(z, 9), blocks::block_at(w, 10))
 }
 
 // AES: the output's share, and into inputs those of what the 200 S-boxes are given. `one` is 1 for party 0, and 0 for the others.
@@ -112,35 +112,4 @@ pub fn aes_circuit(
     let mut p = [0u8; 16];
     public_share(one, plaintext, &mut p);
     rounds(&w, &p, &z[40..], &mut inputs[40..])
-}
-
-// The Even-Mansour form under a public expanded key w: the output's share, and into inputs those of what the rounds' 160 S-boxes are given.
-pub fn even_mansour_circuit(
-    one: u8,
-    key: &[u8],
-    w: &[u8],
-    x: &[u8],
-    inverses: &[u8],
-    inputs: &mut [u8],
-) -> [u8; 16]
-    requires { ⌜ one < 2 ⌝ }
-    requires { ⌜ length (now key) ≡ 16 ⌝ }
-    requires { ⌜ length (now w) ≡ 176 ⌝ }
-    requires { ⌜ length (now x) ≡ 16 ⌝ }
-    requires { ⌜ length (now inverses) ≡ 160 ⌝ }
-    requires { ⌜ length (now inputs) ≡ 160 ⌝ }
-    ensures { λ r. ⌜ r ≡ evenMansourOutputShare (now (w .entry)) (share one (now (key .entry)) (now (inverses .entry))) ⌝ }
-    ensures { λ _. ⌜ now (inputs .exit)
-        ≡ evenMansourInputShares (now (w .entry)) (now (x .entry)) (share one (now (key .entry)) (now (inverses .entry))) ⌝ }
-{
-    let mut z = [0u8; 160];
-    sbox_outputs(one, inverses, &mut z);
-    let mut v = [0u8; 176];
-    public_share(one, w, &mut v);
-    let mut p = [0u8; 16];
-    public_share(one, x, &mut p);
-    let k = steps::block_at(key, 0);
-    let start = steps::add_blocks(p, k);
-    let output = rounds(&v, &start, &z, inputs);
-    steps::add_blocks(output, k)
 }

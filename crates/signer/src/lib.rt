@@ -97,7 +97,7 @@ fn offsets_under(
         ≡ workedOffsets shape (now (us .entry)) (now (vs .entry)) (now (lasts .entry)) (sumXor (shape .parties)
         (λ i. tape (aesScheme shape) (now (salt .entry)) e i (row 16 i (now (seeds .entry))))) (now (first .entry)) ⌝ }
 {
-    row_sums::hash_sum(4, salt, e, shape.parties, seeds, sum);
+    hash_sums::hash_sum(4, salt, e, shape.parties, seeds, sum);
     byte_offsets(shape, key, inverses, sum, offset, inverse);
     wide_offsets(shape, us, vs, lasts, sum, first, product);
 }

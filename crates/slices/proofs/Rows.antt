@@ -9,7 +9,7 @@ use native.Mathlib.Omega.{arith}
 use lib.ListN.{length, take, drop, length-drop}
 use lib.Seq.{take-all, length-take-le}
 use borrow.Rule.Slice.PartMut.{putMid}
-use Rattle.slices.specs.Lists.{put, rows}
+use Rattle.slices.specs.Lists.{put, rows, row}
 use Rattle.slices.proofs.Put.{length-put, take-put, put-mid}
 
 -- ---- where a row lies
@@ -30,6 +30,9 @@ row-size i k = omega arith
 
 pub row-long : (i k : ℕ) (s : List ℕ) → i * k + k ≤ length s → length (take (i * k + k - i * k) (drop (i * k) s)) ≡ k
 row-long i k s h = rw (row-size i k) (length-take-le k (drop (i * k) s) (omega (arith, length-drop (i * k) s)))
+
+pub row-cut : (i k : ℕ) (s : List ℕ) → take (i * k + k - i * k) (drop (i * k) s) ≡ row k i s
+row-cut i k s = rw (row-size i k)
 
 -- ---- a loop that writes a row at each turn: l has m elements, and its first n rows are those of f
 

@@ -29,7 +29,7 @@ fn stated_row(shape: Shape, transcript: &[u8], i: usize, out: &mut [u8])
         × (length (now out) ≡ total (rowSizes shape)) ⌝ }
     ensures { λ _. ⌜ now (out .exit) ≡ statedRow shape (now (transcript .entry)) i ⌝ }
 {
-    let sizes = sets::transcript_sizes(shape);
+    let sizes = opening_sizes::transcript_sizes(shape);
     let row = shape.m1 * shape.wide;
     let c = 16 + shape.wide;
     let a = c + row;

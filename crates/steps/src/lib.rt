@@ -1,55 +1,8 @@
 // The steps of a round of AES (FIPS 197, 5.1), for the cipher and for a party of the circuit, which takes them on shares.
 ghost use mathlib.Core.Path.{_≡_};
-ghost use mathlib.Core.List.{map};
-ghost use Prim.Native.Nat.{_+_, _*_, _≤_};
-ghost use lib.Bits.{bitXor};
-ghost use lib.ListN.{length};
 ghost use Rattle.field.specs.Byte.{mul8};
-ghost use Rattle.aes.specs.Aes.{add, block, matrix, shiftRows, mixColumns};
+ghost use Rattle.aes.specs.Aes.{add, shiftRows, mixColumns};
 ghost use Rattle.steps.specs.Steps.{below, doubledPlus};
-
-// 4.1, and 5.1.4 where b is a round key.
-pub fn add_blocks(a: [u8; 16], b: [u8; 16]) -> [u8; 16]
-    ensures { λ r. ⌜ r ≡ add 16 a b ⌝ }
-{
-    let mut out = [0u8; 16];
-    for i in 0..16 {
-        out[i] = a[i] ^ b[i];
-    }
-    out
-}
-
-// Block n of s.
-pub fn block_at(s: &[u8], n: usize) -> [u8; 16]
-    requires { ⌜ n * 16 + 16 ≤ length (now s) ⌝ }
-    ensures { λ r. ⌜ r ≡ block (now (s .entry)) n ⌝ }
-{
-    let at = n * 16;
-    let end = at + 16;
-    let mut out = [0u8; 16];
-    slices::copy(&mut out, &s[at..end]);
-    out
-}
-
-// 5.1.1, (5.1): b plus b rotated by 1, 2, 3 and 4 bits, and then c added.
-fn affine_byte(b: u8, c: u8) -> u8
-    ensures { λ r. ⌜ r ≡ bitXor (matrix b) c ⌝ }
-{
-    let r1 = (b << 1) ^ (b >> 7);
-    let r2 = (b << 2) ^ (b >> 6);
-    let r3 = (b << 3) ^ (b >> 5);
-    let r4 = (b << 4) ^ (b >> 4);
-    b ^ r1 ^ r2 ^ r3 ^ r4 ^ c
-}
-
-// The affine transformation of each byte, with the constant c.
-pub fn affine(s: &mut [u8], c: u8)
-    ensures { λ _. ⌜ now (s .exit) ≡ map (λ b. bitXor (matrix b) c) (now (s .entry)) ⌝ }
-{
-    for i in 0..s.len() {
-        s[i] = affine_byte(s[i], c);
-    }
-}
 
 // 5.1.2: row r moves r columns to the left.
 fn shift_rows(s: [u8; 16]) -> [u8; 16]
@@ -123,7 +76,7 @@ fn mix_columns(s: [u8; 16]) -> [u8; 16]
     ensures { λ r. ⌜ r ≡ mixColumns s ⌝ }
 {
     let t = below(s);
-    let u = add_blocks(s, t);
+    let u = blocks::add_blocks(s, t);
     doubled_plus(u, t, below(below(u)))
 }
 
@@ -131,12 +84,12 @@ fn mix_columns(s: [u8; 16]) -> [u8; 16]
 pub fn round(s: [u8; 16], k: [u8; 16]) -> [u8; 16]
     ensures { λ r. ⌜ r ≡ add 16 (mixColumns (shiftRows s)) k ⌝ }
 {
-    add_blocks(mix_columns(shift_rows(s)), k)
+    blocks::add_blocks(mix_columns(shift_rows(s)), k)
 }
 
 // The last round after SubBytes(), which mixes no columns.
 pub fn last_round(s: [u8; 16], k: [u8; 16]) -> [u8; 16]
     ensures { λ r. ⌜ r ≡ add 16 (shiftRows s) k ⌝ }
 {
-    add_blocks(shift_rows(s), k)
+    blocks::add_blocks(shift_rows(s), k)
 }

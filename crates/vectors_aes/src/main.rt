@@ -43,7 +43,7 @@ fn answer(line: &[u8])
     io::write_all(STDOUT_FILENO, b" ");
     print(&ciphertext);
     io::write_all(STDOUT_FILENO, b" ");
-    io::print_decimal(STDOUT_FILENO, cipher::first_zero(&inputs) as u64);
+    io::print_decimal(STDOUT_FILENO, sbox_inputs::first_zero(&inputs) as u64);
     io::write_all(STDOUT_FILENO, b"\n");
 }
 

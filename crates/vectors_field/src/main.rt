@@ -31,8 +31,8 @@ fn product48(a: u64, b: u64) {
 
 fn byte(b: u8) {
     print(b"byte ", b as u64);
-    print(b": inverse ", gf::inverse(b) as u64);
-    print(b", lift ", gf::lift32(b) as u64);
+    print(b": inverse ", inverses::inverse(b) as u64);
+    print(b", lift ", lifts::lift32(b) as u64);
     end_line();
 }
 
@@ -94,9 +94,9 @@ fn dots(x: u64)
 {
     let mut coefficients = [0u64; 21];
     lagrange::values32_21(x, &mut coefficients);
-    let p = gf::powers32();
+    let p = lifts::powers32();
     let mut tables = [0u64; 672];
-    dots::tables(32, 0x8d, &p, &coefficients, &mut tables);
+    tables::tables(32, 0x8d, &p, &coefficients, &mut tables);
     let s = bytes();
     print(b"lifted bytes, at ", x);
     print_dots(&tables, &s);

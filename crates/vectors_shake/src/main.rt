@@ -35,25 +35,25 @@ fn write_number(n: usize) {
 }
 
 // src absorbed in pieces of `piece` bytes.
-fn pieces(src: &[u8], piece: usize) -> sponge::Sponge
+fn pieces(src: &[u8], piece: usize) -> stream::Sponge
     requires { ⌜ (0 < piece) × (piece ≤ 100000) × (length (now src) ≤ 100000) ⌝ }
 {
-    let mut s = sponge::new();
+    let mut s = stream::new();
     let mut at = 0;
     while at + piece <= src.len() {
         let end = at + piece;
-        let t = sponge::absorb(s, &src[at..end]);
+        let t = absorb::absorb(s, &src[at..end]);
         s = t;
         at = end;
     }
-    sponge::absorb(s, &src[at..])
+    absorb::absorb(s, &src[at..])
 }
 
 // The next bytes of output, in hex.
-fn squeeze_hex(s: sponge::Sponge, out: &mut [u8]) -> sponge::Sponge
+fn squeeze_hex(s: stream::Sponge, out: &mut [u8]) -> stream::Sponge
     requires { ⌜ length (now out) ≤ 700 ⌝ }
 {
-    let t = sponge::squeeze(s, out);
+    let t = squeeze::squeeze(s, out);
     print(out);
     t
 }
@@ -68,7 +68,7 @@ fn show(len: usize, piece: usize, n: usize)
     write_number(piece);
     write_number(n);
     let s = pieces(&input[0..len], piece);
-    let f = sponge::finish(s);
+    let f = absorb::finish(s);
     let mut first = [0u8; 700];
     let mut second = [0u8; 700];
     let third = n / 3;

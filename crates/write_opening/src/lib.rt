@@ -103,7 +103,7 @@ pub fn write(
         ≡ written shape (now (salt .entry)) e (now (root .entry)) hidden (now (seeds .entry)) (now (key .entry))
         (now (inverse .entry)) (now (first .entry)) (now (product .entry)) second (now (rows .entry)) ⌝ }
 {
-    let sizes = sets::transcript_sizes(shape);
+    let sizes = opening_sizes::transcript_sizes(shape);
     let stride = sets::row_length(shape);
     let a = fields::offset(&sizes, 3);
     let b = fields::offset(&sizes, 4);

@@ -10,7 +10,7 @@ use Rattle.slices.specs.Lists.{tab}
 use Rattle.aes.specs.Aes.{add, block, sbox, subBytes, shiftRows, mixColumns, entering, cipher}
 use Rattle.aes.specs.Sizes.{length-entering}
 use Rattle.slices.specs.Tab.{tab-map}
-use Rattle.steps.proofs.Loops.{Running, running-none, running-more, running-last, running-inputs}
+use Rattle.blocks.proofs.Loops.{Running, running-none, running-more, running-last, running-inputs}
 use Rattle.cipher.proofs.encrypt_rounds.Statement.{statement}
 use Rattle.cipher.proofs.encrypt_rounds.Tie as tie
 

@@ -6,7 +6,7 @@ use native.Mathlib.Omega.{arith}
 use borrow.Author.Needs.{needs}
 use Rattle.aes.specs.Aes.{add, rcon, subWord, nextKey, keyInput, roundKey, keyExpansion}
 use Rattle.aes.specs.Sizes.{length-roundKey}
-use Rattle.steps.proofs.Loops.{Scheduling, scheduling-none, scheduling-more, scheduling-inputs, scheduling-keys}
+use Rattle.blocks.proofs.Loops.{Scheduling, scheduling-none, scheduling-more, scheduling-inputs, scheduling-keys}
 use Rattle.cipher.proofs.expand.Statement.{statement}
 use Rattle.cipher.proofs.expand.Tie as tie
 

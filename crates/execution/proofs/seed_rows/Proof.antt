@@ -7,8 +7,7 @@ use borrow.Author.Needs.{needs}
 use borrow.Rule.Slice.PartMut.{same-len-mid}
 use Rattle.slices.specs.Lists.{row}
 use Rattle.slices.specs.Layout.{total}
-use Rattle.slices.proofs.Rows.{Stacking, stacking-none, stacking-lent, stacking-all, row-fits, row-long}
-use Rattle.party.proofs.Laws.{row-cut}
+use Rattle.slices.proofs.Rows.{Stacking, stacking-none, stacking-lent, stacking-all, row-fits, row-long, row-cut}
 use Rattle.banquet.specs.Shape.{tapeSizes}
 use Rattle.banquet.specs.Sets.{aesScheme}
 use Rattle.banquet.specs.Hash.{tape as tapeOf}

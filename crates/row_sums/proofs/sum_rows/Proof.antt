@@ -5,8 +5,7 @@ use native.Mathlib.Omega.{arith}
 use lib.ListN.{length, length-take, length-drop}
 use borrow.Author.Needs.{needs}
 use Rattle.slices.specs.Lists.{row}
-use Rattle.slices.proofs.Rows.{row-fits, row-long}
-use Rattle.party.proofs.Laws.{row-cut}
+use Rattle.slices.proofs.Rows.{row-fits, row-long, row-cut}
 use Rattle.row_sums.proofs.Laws.{Summing, summing-none, summing-more, summing-all}
 use Rattle.row_sums.proofs.sum_rows.Statement.{statement}
 use Rattle.row_sums.proofs.sum_rows.Tie as tie

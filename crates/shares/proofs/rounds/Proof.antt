@@ -6,7 +6,7 @@ use native.Mathlib.Numerals.{add-one}
 use native.Mathlib.Omega.{arith}
 use borrow.Author.Needs.{needs}
 use Rattle.aes.specs.Aes.{add, block, shiftRows, mixColumns}
-use Rattle.steps.proofs.Loops.{Running, running-none, running-more, running-last, running-inputs}
+use Rattle.blocks.proofs.Loops.{Running, running-none, running-more, running-last, running-inputs}
 use Rattle.circuit.specs.Circuit.{enteringShare, cipherShare}
 use Rattle.circuit.specs.Sizes.{length-enteringShare}
 use Rattle.shares.proofs.rounds.Statement.{statement}

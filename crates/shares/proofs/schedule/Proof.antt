@@ -5,7 +5,7 @@ use Prim.Native.Nat.{ℕ, suc, _-_}
 use native.Mathlib.Omega.{arith}
 use borrow.Author.Needs.{needs}
 use Rattle.aes.specs.Aes.{add, word, rcon, nextKey}
-use Rattle.steps.proofs.Loops.{Scheduling, scheduling-none, scheduling-more, scheduling-inputs, scheduling-keys}
+use Rattle.blocks.proofs.Loops.{Scheduling, scheduling-none, scheduling-more, scheduling-inputs, scheduling-keys}
 use Rattle.circuit.specs.Circuit.{public, roundKeyShare, expansionShare}
 use Rattle.circuit.specs.Sizes.{length-roundKeyShare}
 use Rattle.shares.proofs.schedule.Statement.{statement}

@@ -3,8 +3,8 @@ use mathlib.Core.Path.{ap, _∙_}
 use borrow.Author.Needs.{needs}
 use lib.ListN.{length}
 use Rattle.slices.specs.Bytes.{bytes-of}
-use Rattle.sponge.specs.Stream.{absorbed}
-use Rattle.sponge.proofs.Shake.{output}
+use Rattle.stream.specs.Stream.{absorbed}
+use Rattle.stream.proofs.Shake.{output}
 use Rattle.sponge.proofs.digest.Statement.{statement}
 use Rattle.sponge.proofs.digest.Tie as tie
 

@@ -4,9 +4,9 @@ use Prim.Native.Nat.{_+_, _*_, _≤_}
 use native.Mathlib.Omega.{arith}
 use lib.ListN.{length}
 use borrow.Author.Needs.{needs}
+use Rattle.slices.proofs.Rows.{row-cut}
 use Rattle.slices.specs.Lists.{row}
 use Rattle.fields.specs.Offsets.{length-field-fits}
-use Rattle.party.proofs.Laws.{row-cut}
 use Rattle.stated.proofs.copy_row.Statement.{statement}
 use Rattle.stated.proofs.copy_row.Tie as tie
 

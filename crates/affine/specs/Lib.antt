@@ -1,0 +1,2 @@
+-- The matrix by rotations.
+pub mod Rotations

@@ -1,0 +1,35 @@
+// The sizes of an opening, which follow from a parameter set.
+use banquet::Shape;
+ghost use mathlib.Core.Path.{_≡_};
+ghost use Rattle.banquet.specs.Shape.{transcriptSizes, openingLength};
+ghost use Rattle.sets.specs.Valid.{Valid};
+
+pub fn transcript_sizes(shape: Shape) -> [usize; 12]
+    requires { ⌜ Valid shape ⌝ }
+    ensures { λ r. ⌜ r ≡ transcriptSizes shape ⌝ }
+{
+    let row = shape.m1 * shape.wide;
+    [
+        32,
+        1,
+        shape.parties * 32,
+        shape.parties * 16,
+        16,
+        shape.m1 * shape.m2,
+        row,
+        (shape.m2 + 1) * shape.wide,
+        shape.wide,
+        shape.parties * shape.wide,
+        shape.parties * row,
+        shape.parties * row,
+    ]
+}
+
+// The bytes of an opening.
+pub fn opening_length(shape: Shape) -> usize
+    requires { ⌜ Valid shape ⌝ }
+    ensures { λ r. ⌜ r ≡ openingLength shape ⌝ }
+{
+    let sizes = transcript_sizes(shape);
+    fields::offset(&sizes, 12) + (1 + shape.depth * 16)
+}

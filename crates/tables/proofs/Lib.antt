@@ -1,0 +1,2 @@
+-- Laws for proofs of functions.
+pub mod Picked
