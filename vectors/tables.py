@@ -63,7 +63,7 @@ def answer(name):
 
 def tables():
     """File, name, a pattern that finds the table there, and its entries."""
-    yield 'gf/src/lib.rt', 'INVERSE', const('INVERSE'), [byte.inverse(a) for a in range(256)]
+    yield 'inverses/src/lib.rt', 'INVERSE', const('INVERSE'), [byte.inverse(a) for a in range(256)]
     yield 'field/specs/Byte.antt', 'table8', listed('table8'), undo(byte)
     for f, n in ((f32, 32), (f48, 48)):
         spec, roots, powers = 'field/specs/Wide%d.antt' % n, f.roots(), f.powers()
@@ -71,9 +71,11 @@ def tables():
         yield spec, 'y%d' % n, numeral('y%d' % n), roots[:1]
         yield spec, 'least%d' % n, r'binary%d y%d\s+\(([^\[]*)\[\]' % (n, n), roots[1:]
         yield spec, 'powers%d' % n, listed('powers%d' % n), powers
-        yield 'gf/src/lib.rt', 'powers%d' % n, answer('powers%d' % n), powers
+        # the code reads the powers of 32 bits from the table of lifts
         if n == 32:
-            yield 'gf/src/lib.rt', 'LIFT32', const('LIFT32'), [lift(powers, b) for b in range(256)]
+            yield 'lifts/src/lib.rt', 'LIFT32', const('LIFT32'), [lift(powers, b) for b in range(256)]
+        else:
+            yield 'lifts/src/lib.rt', 'powers%d' % n, answer('powers%d' % n), powers
         for k in (21, 41):
             w = weights(f, k)
             yield 'weights/specs/Weights%d.antt' % n, 'weights%dx%d' % (n, k), listed('weights%dx%d' % (n, k)), w
