@@ -120,7 +120,7 @@ fn make_rows(
     let mut us = [0u64; 210];
     let mut vs = [0u64; 210];
     let mut lasts = [0u64; 21];
-    offsets::true_rows(shape, inputs, inverses, &mut us, &mut vs, &mut lasts);
+    true_rows::true_rows(shape, inputs, inverses, &mut us, &mut vs, &mut lasts);
     let mut products = [0u8; 126];
     let end = 21 * shape.wide;
     make_shares(

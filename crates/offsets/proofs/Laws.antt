@@ -1,32 +1,18 @@
--- Rows by tables at a point; a sum of products from two lists; which points there are. Assumes nothing.
+-- A sum of products from two lists; a row's. Assumes nothing.
 use mathlib.Core.Path.{_≡_, ap, ap₂, _∙_}
 use mathlib.Core.List.{List}
-use Prim.Native.Nat.{ℕ, _+_, _-_, _*_, _^_, _≤_, _<_}
+use Prim.Native.Nat.{ℕ, _+_, _-_, _*_}
 use native.Mathlib.Omega.{arith}
 use lib.Bits.{bitXor}
 use lib.ListN.{take, drop}
-use Rattle.slices.specs.Lists.{tab, rows, row}
-use Rattle.slices.specs.Tab.{length-tab, getD-tab, tab-cong}
-use Rattle.slices.specs.Bytes.{Bytes}
-use Rattle.slices.proofs.Rows.{Stacking, stacking-all}
+use Rattle.slices.specs.Lists.{tab, row}
+use Rattle.slices.specs.Tab.{length-tab, getD-tab}
 use Rattle.poly.specs.Sum.{sum, sum-cong}
 use Rattle.field.specs.Ring.{mul}
 use Rattle.field.specs.Wide.{ops}
 use Rattle.lagrange.specs.Values.{dotProduct}
 use Rattle.banquet.specs.declared.Shape.{Shape}
-use Rattle.sets.specs.Valid.{Valid}
-use Rattle.sets.specs.Laws.{laws}
-use Rattle.forms.specs.Point.{tablesAt, tabledRow, rowAt, productValue}
-use Rattle.forms.specs.Values.{tabled-row}
-
-module _ {S : Shape} (v : Valid S) where
-  -- the points 0 to 40 are elements
-  pub point-fits : 40 < 2 ^ (8 * S .wide)
-  point-fits = omega (arith, laws v .enough-points, v .twenty)
-
-  pub rows-right : (x n : ℕ) {bytes tables out : List ℕ} → Bytes bytes → tables ≡ tablesAt S x → out ≡ tab (tabledRow S bytes tables) n
-      → out ≡ tab (λ j. rowAt S bytes j x) n
-  rows-right x n b t e = e ∙ tab-cong n (λ j l. tabled-row v x b t j)
+use Rattle.forms.specs.Point.{productValue}
 
 -- the dot product of n values with n others
 pub dot-right : (w low n : ℕ) (f g : ℕ → ℕ) {s t : List ℕ} {r : ℕ} → s ≡ tab f n → t ≡ tab g n → r ≡ dotProduct w low s t
@@ -42,7 +28,3 @@ pub row-product : (S : Shape) (first extra us vs : List ℕ) (k last share : ℕ
 row-product S first extra us vs k last share e =
     let size : k * 10 + 10 - k * 10 ≡ 10 = omega arith in
     ap (λ p. bitXor p share) (rw size at e)
-
--- all rows are written
-pub stacked : {f : ℕ → List ℕ} {k i n m : ℕ} {l : List ℕ} → Stacking f k i m l → i ≡ n → m ≤ n * k → l ≡ rows f n
-stacked {f} {k} {i} {n} {m} {l} w e h = let w′ : Stacking f k n m l = rw e at w in stacking-all w′ h

@@ -1,64 +1,11 @@
-// The product offsets before the tapes' shares are added: P at the points 20 to 40. The rows there depend on key and plaintext alone, so that one
-// signature's executions share them.
+// The product offsets: P at the points 20 to 40, with the tapes' shares added.
 use banquet::Shape;
 ghost use mathlib.Core.Path.{_≡_};
-ghost use Prim.Native.Nat.{_+_, _*_, _^_, _<_};
 ghost use lib.ListN.{length, getD};
 ghost use lib.Bits.{bitXor};
-ghost use Rattle.slices.specs.Lists.{tab, rows as rowsOf, row};
+ghost use Rattle.slices.specs.Lists.{tab, row};
 ghost use Rattle.sets.specs.Valid.{Valid};
-ghost use Rattle.forms.specs.Point.{near, rowAt, productValue};
-
-// For each j the rows of both at x; Lagrange's value there for the extra point.
-fn point_rows(
-    shape: Shape,
-    x: u64,
-    inputs: &[u8],
-    inverses: &[u8],
-    u: &mut [u64],
-    v: &mut [u64],
-) -> u64
-    requires { ⌜ Valid shape × (x < 2 ^ (8 * shape .wide)) × (length (now inputs) ≡ 200) × (length (now inverses) ≡ 200)
-        × (length (now u) ≡ 10) × (length (now v) ≡ 10) ⌝ }
-    ensures { λ r. ⌜ r ≡ near shape x 20 ⌝ }
-    ensures { λ _. ⌜ now (u .exit) ≡ tab (λ j. rowAt shape (now (inputs .entry)) j x) 10 ⌝ }
-    ensures { λ _. ⌜ now (v .exit) ≡ tab (λ j. rowAt shape (now (inverses .entry)) j x) 10 ⌝ }
-{
-    let mut tables = [0u64; 640];
-    let last = points::tables(shape, x, &mut tables);
-    opened::rows(shape, inputs, &tables, u);
-    opened::rows(shape, inverses, &tables, v);
-    last
-}
-
-// The same at the points 20 to 40.
-pub fn true_rows(
-    shape: Shape,
-    inputs: &[u8],
-    inverses: &[u8],
-    us: &mut [u64],
-    vs: &mut [u64],
-    lasts: &mut [u64],
-)
-    requires { ⌜ Valid shape × (length (now inputs) ≡ 200) × (length (now inverses) ≡ 200) × (length (now us) ≡ 210)
-        × (length (now vs) ≡ 210) × (length (now lasts) ≡ 21) ⌝ }
-    ensures { λ _. ⌜ now (us .exit) ≡ rowsOf (λ k. tab (λ j. rowAt shape (now (inputs .entry)) j (20 + k)) 10) 21 ⌝ }
-    ensures { λ _. ⌜ now (vs .exit) ≡ rowsOf (λ k. tab (λ j. rowAt shape (now (inverses .entry)) j (20 + k)) 10) 21 ⌝ }
-    ensures { λ _. ⌜ now (lasts .exit) ≡ tab (λ k. near shape (20 + k) 20) 21 ⌝ }
-{
-    for k in 0..21 {
-        let a = k * 10;
-        let b = a + 10;
-        lasts[k] = point_rows(
-            shape,
-            (20 + k) as u64,
-            inputs,
-            inverses,
-            &mut us[a..b],
-            &mut vs[a..b],
-        );
-    }
-}
+ghost use Rattle.forms.specs.Point.{productValue};
 
 // P at a point: the sum of S_j times T_j.
 fn product(shape: Shape, first: &[u64], extra: &[u64], u: &[u64], v: &[u64], last: u64) -> u64

@@ -1,9 +1,9 @@
--- `offsets::point_rows` meets its contract: the tables give the rows. Assumes nothing.
+-- `true_rows::point_rows` meets its contract: the tables give the rows. Assumes nothing.
 use borrow.Author.Needs.{needs}
 use Rattle.slices.specs.Bytes.{bytes-of}
-use Rattle.offsets.proofs.Laws.{rows-right}
-use Rattle.offsets.proofs.point_rows.Statement.{statement}
-use Rattle.offsets.proofs.point_rows.Tie as tie
+use Rattle.true_rows.proofs.Laws.{rows-right}
+use Rattle.true_rows.proofs.point_rows.Statement.{statement}
+use Rattle.true_rows.proofs.point_rows.Tie as tie
 
 returns : tie.Need-returns
 returns c =

@@ -1,4 +1,4 @@
--- `offsets::true_rows` meets its contract: a turn writes a row of both and a number. Assumes nothing.
+-- `true_rows::true_rows` meets its contract: a turn writes a row of both and a number. Assumes nothing.
 use mathlib.Core.Path.{_≡_}
 use Prim.Native.Nat.{_+_, _-_}
 use native.Mathlib.Omega.{arith}
@@ -8,9 +8,9 @@ use Rattle.slices.specs.Lists.{tab}
 use Rattle.slices.proofs.Fill.{Filling, filling-none, filling-more, filling-all}
 use Rattle.slices.proofs.Rows.{Stacking, stacking-none, stacking-lent, row-long}
 use Rattle.forms.specs.Point.{near, rowAt}
-use Rattle.offsets.proofs.Laws.{point-fits, stacked}
-use Rattle.offsets.proofs.true_rows.Statement.{statement}
-use Rattle.offsets.proofs.true_rows.Tie as tie
+use Rattle.true_rows.proofs.Laws.{point-fits, stacked}
+use Rattle.true_rows.proofs.true_rows.Statement.{statement}
+use Rattle.true_rows.proofs.true_rows.Tie as tie
 
 abbrev Inv-loop : tie.InvT-loop
 Inv-loop shape inputs inverses us₀ vs₀ lasts₀ k₀ us vs lasts k =
