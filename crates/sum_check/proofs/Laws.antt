@@ -1,61 +1,37 @@
--- A row's fields, the product, and the end of the check case by case. Assumes nothing.
-use mathlib.Core.Path.{_≡_, refl, sym, ap, ap₂, _∙_}
+-- A row's fields, and the end of the check case by case. Assumes nothing.
+use mathlib.Core.Path.{_≡_, sym, ap, _∙_}
 use mathlib.Core.Bool.{Bool, true, false, not}
 use mathlib.Core.List.{List}
 use Prim.Native.Nat.{ℕ, _*_, _^_, _<_, _≤_}
 use native.Mathlib.Omega.{arith}
-use lib.Dec.{eqb}
 use lib.ListN.{length, getD, take}
 use borrow.Author.Tests.{not-true, not-false}
-use Rattle.slices.specs.Lists.{tab, row, part, sumXor, same}
-use Rattle.slices.specs.Tab.{getD-tab}
-use Rattle.slices.specs.Numbers.{number, numberAt}
+use Rattle.slices.specs.Lists.{row, sumXor, same}
 use Rattle.slices.specs.Layout.{total, field, length-field}
-use Rattle.poly.specs.Sum.{sum, sum-cong}
-use Rattle.field.specs.Ring.{mul}
-use Rattle.lagrange.specs.Values.{dotProduct}
 use Rattle.banquet.specs.declared.Shape.{Shape}
 use Rattle.banquet.specs.declared.Answer.{Answer}
 use Rattle.banquet.specs.declared.Answer.the-variants.{Accepted, ShareDiffers, ProductDiffers}
 use Rattle.banquet.specs.Answer.{require}
-use Rattle.banquet.specs.Scheme.{wideOps}
-use Rattle.banquet.specs.Sets.{aesScheme}
 use Rattle.sets.specs.Valid.{Valid}
-use Rattle.sets.specs.Bounds.{rowSizes, by-ten, row-most}
-use Rattle.forms.specs.Sums.{rowProductHolds, sumsAnswer}
+use Rattle.sets.specs.Bounds.{rowSizes, row-most}
+use Rattle.forms.specs.Sums.{bytesProductHolds, rowProductHolds, sumsAnswer}
 
 -- ---- fields of a row
 
-module _ {S : Shape} (v : Valid S) {sizes : List ℕ} (s : List ℕ) where
-  pub shares-fit : sizes ≡ rowSizes S → length s ≡ total (rowSizes S) → (k : ℕ) → k < 4
-      → (k < length sizes) × (total sizes ≤ length s) × (total sizes < 2 ^ 63)
-  shares-fit e h k l = rw e (omega arith, omega arith, omega (arith, row-most v))
+module _ {S : Shape} (v : Valid S) {sizes : List ℕ} (s : List ℕ) (e : sizes ≡ rowSizes S) (h : length s ≡ total (rowSizes S)) where
+  pub shares-fit : (k : ℕ) → k < 4 → (k < length sizes) × (total sizes ≤ length s) × (total sizes < 2 ^ 63)
+  shares-fit k l = rw e (omega arith, omega arith, omega (arith, row-most v))
 
-  -- field k of a row has ten numbers
-  pub tens-fit : {f : List ℕ} → sizes ≡ rowSizes S → length s ≡ total (rowSizes S) → (k : ℕ) → getD (rowSizes S) k 0 ≡ S .m1 * S .wide
-      → f ≡ field sizes k s → (S .wide ≤ 8) × (10 * S .wide ≤ length f)
-  tens-fit {f} e h k g is =
-      let n : length f ≡ S .m1 * S .wide = rw (is, e) (length-field (rowSizes S) k s h ∙ g) in
-      (omega (arith, v .wide-most), omega (arith, n, by-ten v (S .wide)))
+  share-size : {f : List ℕ} (k : ℕ) → f ≡ field sizes k s → length f ≡ getD (rowSizes S) k 0
+  share-size k is = rw (is, e) (length-field (rowSizes S) k s h)
 
--- ---- the product
+  -- the fields of c, a and b
+  module _ {c a b : List ℕ} (c-is : c ≡ field sizes 1 s) (a-is : a ≡ field sizes 2 s) (b-is : b ≡ field sizes 3 s) where
+    pub shares-sized : Valid S × (length c ≡ S .wide) × (length a ≡ S .m1 * S .wide) × (length b ≡ S .m1 * S .wide)
+    shares-sized = (v, share-size 1 c-is, share-size 2 a-is, share-size 3 b-is)
 
-dot-sum : {S : Shape} (s t : List ℕ) {a b : List ℕ} → Valid S
-    → a ≡ tab (λ k. numberAt (S .wide) k s) 10 → b ≡ tab (λ k. numberAt (S .wide) k t) 10
-    → dotProduct (8 * S .wide) (S .low) a b
-    ≡ sum (wideOps (aesScheme S)) (S .m1) (λ j. mul (8 * S .wide) (S .low) (numberAt (S .wide) j s) (numberAt (S .wide) j t))
-unfolding dotProduct
-dot-sum {S} s t {a} {b} v e f =
-    let n : length a ≡ 10 = ap length e in
-    rw (n, e, f, v .ten)
-    (sum-cong (wideOps (aesScheme S)) 10
-    (λ j l. ap₂ (mul (8 * S .wide) (S .low)) (getD-tab (λ k. numberAt (S .wide) k s) 10 j 0 l) (getD-tab (λ k. numberAt (S .wide) k t) 10 j 0 l)))
-
-pub product-right : {S : Shape} (s : List ℕ) {sizes a b : List ℕ} {c d : ℕ} → Valid S → sizes ≡ rowSizes S → c ≡ number (part 16 (S .wide) s)
-    → a ≡ tab (λ k. numberAt (S .wide) k (field sizes 2 s)) 10 → b ≡ tab (λ k. numberAt (S .wide) k (field sizes 3 s)) 10
-    → d ≡ dotProduct (8 * S .wide) (S .low) a b → eqb c d ≡ rowProductHolds S s
-unfolding rowProductHolds field
-product-right {S} s {sizes} v e c f g d = ap₂ eqb c (d ∙ dot-sum (field sizes 2 s) (field sizes 3 s) v f g ∙ rw e refl)
+    pub row-product : {holds : Bool} → holds ≡ bytesProductHolds S c a b → holds ≡ rowProductHolds S s
+    row-product p = p ∙ rw (c-is, a-is, b-is, e)
 
 -- ---- the end of the check: the answer, and the sums as they are left
 

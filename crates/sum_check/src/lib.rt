@@ -8,22 +8,7 @@ ghost use Rattle.slices.specs.Lists.{row, sumXor};
 ghost use Rattle.slices.specs.Layout.{total};
 ghost use Rattle.sets.specs.Valid.{Valid};
 ghost use Rattle.sets.specs.Bounds.{rowSizes};
-ghost use Rattle.forms.specs.Sums.{rowProductHolds, sumsAnswer};
-
-// c is the sum of a_j times b_j, of w bytes each, one after the other.
-fn product_holds(shape: Shape, sums: &[u8]) -> bool
-    requires { ⌜ Valid shape × (length (now sums) ≡ total (rowSizes shape)) ⌝ }
-    ensures { λ r. ⌜ r ≡ rowProductHolds shape (now (sums .entry)) ⌝ }
-{
-    let sizes = sets::row_sizes(shape);
-    let bits = (8 * shape.wide) as u32;
-    let c = numbers::load(sums, 16, shape.wide);
-    let mut a = [0u64; 10];
-    elements::load(shape.wide, fields::field(&sizes, 2, sums), &mut a);
-    let mut b = [0u64; 10];
-    elements::load(shape.wide, fields::field(&sizes, 3, sums), &mut b);
-    c == dots::dot(bits, shape.low, &b, &a)
-}
+ghost use Rattle.forms.specs.Sums.{sumsAnswer};
 
 // The end of the check: the sum of the output shares is the ciphertext, and the product holds.
 pub fn check_sums(shape: Shape, ciphertext: &[u8], e: u8, rows: &[u8], sums: &mut [u8]) -> Answer
@@ -36,7 +21,14 @@ pub fn check_sums(shape: Shape, ciphertext: &[u8], e: u8, rows: &[u8], sums: &mu
     if !slices::equal(&sums[0..16], ciphertext) {
         return Answer::ShareDiffers(shape.parties as u8);
     }
-    if !product_holds(shape, sums) {
+    let sizes = sets::row_sizes(shape);
+    let holds = product::holds(
+        shape,
+        fields::field(&sizes, 1, sums),
+        fields::field(&sizes, 2, sums),
+        fields::field(&sizes, 3, sums),
+    );
+    if !holds {
         return Answer::ProductDiffers(e);
     }
     Answer::Accepted
