@@ -1,7 +1,7 @@
 -- The frames of a signature, for a valid parameter set: how long they are, where they lie, and their fields. Assumes nothing.
 use mathlib.Core.Path.{_≡_, ap, _∙_}
 use mathlib.Core.Bool.{Bool, true, false}
-use mathlib.Core.List.{List, []}
+use mathlib.Core.List.{List}
 use Prim.Native.Nat.{ℕ, suc, _+_, _*_, _^_, _<_, _≤_}
 use native.Mathlib.Nat.{mul-le-mul, mul-le-mul-right, suc-mul}
 use native.Mathlib.Omega.{arith}
@@ -49,6 +49,10 @@ frame-field-size S frame k e h is = rw (is, e) (length-field (frameSizes S) k fr
 
 -- ---- frame e of a signature s
 
+chosen-bytes : (test : Bool) {a b : List ℕ} → Bytes a → Bytes b → Bytes (choose test a b)
+chosen-bytes true p q = p
+chosen-bytes false p q = q
+
 module _ (S : Shape) (s : List ℕ) where
   open Shape S using (executions)
 
@@ -73,11 +77,7 @@ module _ (S : Shape) (s : List ℕ) where
       ap length (frame-is h l)
       ∙ length-take-le n (drop (e * n) (drop 96 s)) (omega (arith, frame-room h l, rest, length-drop 96 s))
 
-  -- an empty part is bytes too
-  chosen-bytes : (test : Bool) {a b : List ℕ} → Bytes a → Bytes b → Bytes (choose test a b)
-  chosen-bytes true p q = p
-  chosen-bytes false p q = q
-
+  -- whatever e and the length of s: an empty part is bytes too
   pub frame-bytes : (e : ℕ) → Bytes s → Bytes (frameOf (aesScheme S) s e)
   unfolding frameOf
   frame-bytes e p =

@@ -50,7 +50,8 @@ holds-requires c κs =
     (c .before .before .field2 .ensures) (c .field3 .ensures)
 
 product-is : (c : tie.After-holds)
-    → c .holds .result ≡ rowProductHolds (start (sums (sized (first (c .before)))) .args .shape) (sums (sized (first (c .before))) .sum-rows .last .1 .1 .0)
+    → c .holds .result
+    ≡ rowProductHolds (start (sums (sized (first (c .before)))) .args .shape) (sums (sized (first (c .before))) .sum-rows .last .1 .1 .0)
 product-is c =
     let f = c .before in
     let z = sized (first f) in
