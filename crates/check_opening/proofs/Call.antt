@@ -17,9 +17,9 @@ use Rattle.banquet.specs.Sets.{aesScheme}
 use Rattle.banquet.specs.Answer.{require, workAfter}
 use Rattle.banquet.specs.Opening.{transcriptOf, hiddenOf, siblingsOf, checkOpening}
 use Rattle.banquet.specs.Calls.{verifyOpeningAnswer}
+use Rattle.scratch.specs.Clears.{called}
 use Rattle.sets.specs.Valid.{Valid}
 use Rattle.sets.specs.Bounds.{transcript-most}
-use Rattle.check_opening.proofs.Clears.{called}
 
 -- all sizes can be added
 pub sizes-fit : {S : Shape} {sizes : List ℕ} → Valid S → sizes ≡ transcriptSizes S → (12 ≤ length sizes) × (total sizes < 2 ^ 63)

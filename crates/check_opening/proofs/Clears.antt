@@ -1,27 +1,11 @@
--- Which answers leave the work slice's front zero, and a call's contract from its answer. Assumes nothing.
-use mathlib.Core.Path.{_≡_, refl, sym, ap, _∙_}
-use mathlib.Core.Bool.{Bool, true, false}
+-- The answers from number 13 on leave the work slice's front zero. Assumes nothing.
+use mathlib.Core.Path.{refl}
 use mathlib.Core.List.{List}
-use Prim.Native.Nat.{ℕ, zero, suc}
+use Prim.Native.Nat.{ℕ}
 use Rattle.banquet.specs.declared.Shape.{Shape}
-use Rattle.banquet.specs.declared.Answer.{Answer}
 use Rattle.banquet.specs.Sets.{aesScheme}
-use Rattle.banquet.specs.Answer.{verdictOf, clears, require, each, cleared, workAfter}
 use Rattle.banquet.specs.Opening.{checkShares, checkParties}
-
-pub record Clears (a : Answer) : Type 0 where
-  pub is : clears (verdictOf a) ≡ true
-
-require-clears : (t : Bool) {refusal rest : Answer} → Clears refusal → Clears rest → Clears (require t refusal rest)
-unfolding require
-require-clears true p q = q
-require-clears false p q = p
-
-each-clears : (n i : ℕ) (test : ℕ → Bool) {refusal : ℕ → Answer} {rest : Answer} → ((j : ℕ) → Clears (refusal j)) → Clears rest
-    → Clears (each n i test refusal rest)
-unfolding each
-each-clears zero i test p q = q
-each-clears (suc n) i test p q = require-clears (test i) (p i) (each-clears n (suc i) test p q)
+use Rattle.scratch.specs.Clears.{Clears, require-clears, each-clears}
 
 pub parties-clear : (S : Shape) (publicKey t : List ℕ) (hidden : ℕ) (seedOf : ℕ → List ℕ)
     → Clears (checkParties (aesScheme S) publicKey t hidden seedOf)
@@ -30,11 +14,3 @@ parties-clear S publicKey t hidden seedOf =
     each-clears (S .parties) 0 _ (λ j. record { is = refl })
     (each-clears (S .parties) 0 _ (λ j. record { is = refl }) (require-clears _ (record { is = refl })
     (require-clears _ (record { is = refl }) (record { is = refl }))))
-
-pub work-clears : {a : Answer} (w : List ℕ) → Clears a → cleared w ≡ workAfter a w
-unfolding workAfter
-work-clears w h = rw (h .is)
-
--- both halves of a call's contract from the answer's case
-pub called : (work : List ℕ) {whole a : Answer} {w : List ℕ} → whole ≡ a → w ≡ workAfter a work → (a ≡ whole) × (w ≡ workAfter whole work)
-called work e w = (sym e, w ∙ ap (λ a. workAfter a work) (sym e))

@@ -15,7 +15,8 @@ use Rattle.banquet.specs.Sets.{aesScheme}
 use Rattle.banquet.specs.Answer.{require, cleared, workAfter}
 use Rattle.banquet.specs.Opening.{executionOf, secondOf, shownSeed, checkParties, checkOpening}
 use Rattle.scratch.specs.Scratch.{Scratch, cleared-scratch}
-use Rattle.check_opening.proofs.Clears.{Clears, parties-clear, work-clears, called}
+use Rattle.scratch.specs.Clears.{Clears, work-clears, called}
+use Rattle.check_opening.proofs.Clears.{parties-clear}
 
 -- the execution is a byte
 pub execution-is : (S : Shape) (t : List ℕ) → 32 < length t → getD t 32 0 ≡ executionOf (aesScheme S) t

@@ -17,10 +17,11 @@ use Rattle.banquet.specs.Sets.{aesScheme}
 use Rattle.banquet.specs.Hash.{commitment}
 use Rattle.banquet.specs.Tree.{nodeSeeds, shownLeaves}
 use Rattle.banquet.specs.Opening.{saltOf, commitmentOf, shownSeed, commitmentHolds, sharesHold, checkShares, checkParties}
+use Rattle.scratch.specs.Each.{each-found, each-none, each-cong}
 use Rattle.sets.specs.Valid.{Valid}
 use Rattle.sets.specs.Bounds.{rowSizes, rows-most}
 use Rattle.tree.specs.Rows.{row-shown}
-use Rattle.share_check.specs.Steps.{Given, each-found, each-none, each-cong}
+use Rattle.share_check.specs.Steps.{Given}
 
 -- there is room for all rows, twice
 pub rows-fit : {S : Shape} {len : ℕ} → Valid S → len ≡ total (rowSizes S) → S .parties * len ≤ 18176

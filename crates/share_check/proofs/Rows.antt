@@ -24,12 +24,13 @@ use Rattle.banquet.specs.Execution.{challenge, outputShare}
 use Rattle.banquet.specs.Opening.{transcriptPart, committedOf, sharesHold, outputsHold, productHolds, executionOf, tapeUnder, checkShares}
 use Rattle.theorems.specs.Keys.{sized-front}
 use Rattle.theorems.specs.Shares.{Fits, hashed-tape, sized-outputShare}
+use Rattle.scratch.specs.Each.{each-found, each-none, each-cong}
 use Rattle.sets.specs.Laws.{laws}
 use Rattle.sets.specs.Bounds.{rowSizes}
 use Rattle.forms.specs.Party.{shareRow, committed}
 use Rattle.forms.specs.Stated.{statedRow, row-same}
 use Rattle.forms.specs.Sums.{sumsAnswer, length-stated, sums-outputs, sums-product}
-use Rattle.share_check.specs.Steps.{Given, madeRow, rowsAnswer, each-found, each-none, each-cong}
+use Rattle.share_check.specs.Steps.{Given, madeRow, rowsAnswer}
 use Rattle.share_check.proofs.Halves.{halves-read}
 
 module _ {S : Shape} {publicKey t : List ℕ} {e second : ℕ} (g : Given S publicKey t e second) where

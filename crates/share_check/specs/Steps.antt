@@ -1,20 +1,18 @@
 -- The steps of the check of an opening: what each is given and answers. Assumes nothing.
-use mathlib.Core.Path.{_≡_, refl, ap, ap₂, _∙_, sym}
-use mathlib.Core.Bool.{Bool, true, false, _||_}
+use mathlib.Core.Path.{_≡_}
+use mathlib.Core.Bool.{_||_}
 use mathlib.Core.List.{List}
-use Prim.Native.Nat.{ℕ, zero, suc, _+_, _<_, _≤_}
-use native.Mathlib.Omega.{arith}
+use Prim.Native.Nat.{ℕ}
 use lib.Dec.{eqb}
-use Rattle.slices.specs.Lists.{choose, row, same, sumXor}
+use Rattle.slices.specs.Lists.{row, same, sumXor}
 use Rattle.slices.specs.Bytes.{Sized}
 use Rattle.slices.specs.Layout.{total}
-use Rattle.compare.specs.Lowest.{lowest}
 use Rattle.banquet.specs.declared.Shape.{Shape}
 use Rattle.banquet.specs.declared.Answer.{Answer}
 use Rattle.banquet.specs.declared.Answer.the-variants.{ShareDiffers}
 use Rattle.banquet.specs.Shape.{publicKeyLength, transcriptSizes}
 use Rattle.banquet.specs.Sets.{aesScheme}
-use Rattle.banquet.specs.Answer.{require, each}
+use Rattle.banquet.specs.Answer.{each}
 use Rattle.banquet.specs.Opening.{executionOf, secondOf, committedOf, challengeOf, tapeUnder}
 use Rattle.sets.specs.Valid.{Valid}
 use Rattle.sets.specs.Bounds.{rowSizes}
@@ -40,40 +38,3 @@ unfoldable pub rowsAnswer : Shape → List ℕ → ℕ → ℕ → List ℕ → 
 rowsAnswer S ciphertext e hidden made stated =
     each (S .parties) 0 (λ i. eqb i hidden || same (row (total (rowSizes S)) i made) (row (total (rowSizes S)) i stated)) ShareDiffers
     (sumsAnswer S ciphertext e (sumXor (S .parties) (λ i. row (total (rowSizes S)) i stated)))
-
--- ---- a test of each number refuses at the lowest that fails
-
-module _ (test : ℕ → Bool) (refusal : ℕ → Answer) (rest : Answer) where
-  each-from : (n i : ℕ) → ((lowest n i test < i + n) → each n i test refusal rest ≡ refusal (lowest n i test))
-      × ((i + n ≤ lowest n i test) → each n i test refusal rest ≡ rest)
-  unfolding each lowest require
-  each-from zero i = (λ h. absurd (omega arith), λ h. refl)
-  each-from (suc n) i = go (test i) (each-from n (suc i))
-    where
-      go : (t : Bool)
-          → ((lowest n (suc i) test < suc i + n) → each n (suc i) test refusal rest ≡ refusal (lowest n (suc i) test))
-          × ((suc i + n ≤ lowest n (suc i) test) → each n (suc i) test refusal rest ≡ rest)
-          → ((choose t (lowest n (suc i) test) i < i + suc n)
-          → require t (refusal i) (each n (suc i) test refusal rest) ≡ refusal (choose t (lowest n (suc i) test) i))
-          × ((i + suc n ≤ choose t (lowest n (suc i) test) i) → require t (refusal i) (each n (suc i) test refusal rest) ≡ rest)
-      go true ih = (λ h. ih .0 (omega arith), λ h. ih .1 (omega arith))
-      go false ih = (λ h. refl, λ h. absurd (omega arith))
-
-  pub each-found : (n : ℕ) {found : ℕ} → found ≡ lowest n 0 test → found < n → each n 0 test refusal rest ≡ refusal found
-  each-found n e l = each-from n 0 .0 (omega (arith, e)) ∙ ap refusal (sym e)
-
-  pub each-none : (n : ℕ) {found : ℕ} → found ≡ lowest n 0 test → n ≤ found → each n 0 test refusal rest ≡ rest
-  each-none n e l = each-from n 0 .1 (omega (arith, e))
-
--- tests that agree on the n numbers, and the same rest
-each-same : (refusal : ℕ → Answer) (n i : ℕ) {f g : ℕ → Bool} {r r′ : Answer} → ((j : ℕ) → i ≤ j → j < i + n → f j ≡ g j) → r ≡ r′
-    → each n i f refusal r ≡ each n i g refusal r′
-unfolding each
-each-same refusal zero i h e = e
-each-same refusal (suc n) i h e =
-    ap₂ (λ (t : Bool) (r : Answer). require t (refusal i) r) (h i (omega arith) (omega arith))
-    (each-same refusal n (suc i) (λ j l m. h j (omega arith) (omega arith)) e)
-
-pub each-cong : (refusal : ℕ → Answer) (n : ℕ) {f g : ℕ → Bool} {r r′ : Answer} → ((j : ℕ) → j < n → f j ≡ g j) → r ≡ r′
-    → each n 0 f refusal r ≡ each n 0 g refusal r′
-each-cong refusal n h e = each-same refusal n 0 (λ j l m. h j (omega arith)) e

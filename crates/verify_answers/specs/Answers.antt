@@ -1,0 +1,161 @@
+-- The answer of the call that checks a signature, case by case, and what it leaves in the work slice. Assumes nothing.
+use mathlib.Core.Path.{_≡_, refl, sym, ap, _∙_}
+use mathlib.Core.Bool.{Bool, true, false}
+use mathlib.Core.Logic.{_≢_}
+use mathlib.Core.List.{List}
+use Prim.Native.Nat.{ℕ, _+_, _-_, _<_, _≤_}
+use native.Mathlib.Omega.{arith}
+use lib.ListN.{length, take, drop, length-drop}
+use lib.Seq.{drop-drop, length-take-le}
+use borrow.Author.Tests.{eq-eqb, ne-eqb, le-leb, lt-leb}
+use Rattle.slices.specs.Lists.{same}
+use Rattle.slices.specs.Layout.{field}
+use Rattle.compare.specs.Lowest.{lowest}
+use Rattle.banquet.specs.declared.Shape.{Shape}
+use Rattle.banquet.specs.declared.Answer.{Answer}
+use Rattle.banquet.specs.declared.Answer.the-variants.{
+  Accepted,
+  PublicKeyLength,
+  MessageLength,
+  FileLength,
+  WorkLength,
+  ProductDiffers,
+  FirstHashDiffers,
+  ThirdHashDiffers,
+}
+use Rattle.banquet.specs.Shape.{publicKeyLength, signatureLength}
+use Rattle.banquet.specs.Sets.{aesScheme}
+use Rattle.banquet.specs.Answer.{require, cleared, workAfter}
+use Rattle.banquet.specs.Signature.{headPart, frameOf, frameHolds, recomputedH1, recomputedH3, checkSignature}
+use Rattle.banquet.specs.Calls.{verifyAnswer}
+use Rattle.scratch.specs.Scratch.{Scratch, cleared-scratch}
+use Rattle.scratch.specs.Each.{each-found, each-none}
+use Rattle.scratch.specs.Clears.{Clears, require-clears, each-clears, work-clears, called}
+use Rattle.sets.specs.Valid.{Valid}
+
+-- ---- the head of a signature s as the code takes it: "salt, h1, h3 (32 each)"
+
+module _ (S : Shape) (s : List ℕ) where
+  pub salt-is : take (32 - 0) s ≡ headPart (aesScheme S) 0 s
+  unfolding field
+  salt-is = refl
+
+  pub h1-is : take (64 - 32) (drop 32 s) ≡ headPart (aesScheme S) 1 s
+  unfolding field
+  h1-is = refl
+
+  pub h3-is : take (96 - 64) (drop 64 s) ≡ headPart (aesScheme S) 2 s
+  unfolding field
+  h3-is = ap (take 32) (sym (drop-drop 32 32 s))
+
+  module _ (file : length s ≡ signatureLength S) where
+    pub head-long : (length (take (32 - 0) s) ≡ 32) × (length (take (64 - 32) (drop 32 s)) ≡ 32) × (length (take (96 - 64) (drop 64 s)) ≡ 32)
+    head-long = (
+      length-take-le 32 s (omega (arith, file)),
+      length-take-le 32 (drop 32 s) (omega (arith, file, length-drop 32 s)),
+      length-take-le 32 (drop 64 s) (omega (arith, file, length-drop 64 s)),
+    )
+
+    pub head-sizes : (length (headPart (aesScheme S) 0 s) ≡ 32) × (length (headPart (aesScheme S) 1 s) ≡ 32)
+        × (length (headPart (aesScheme S) 2 s) ≡ 32)
+    head-sizes = (
+      ap length (sym salt-is) ∙ head-long .0,
+      ap length (sym h1-is) ∙ head-long .1,
+      ap length (sym h3-is) ∙ head-long .2,
+    )
+
+-- ---- numbers 15, 16 and 17: "The first that applies is returned."
+
+module _ (S : Shape) (publicKey message salt h1 h3 : List ℕ) (frames : ℕ → List ℕ) where
+  open Shape S using (executions)
+
+  abbrev checked-answer : Answer
+  checked-answer = checkSignature (aesScheme S) publicKey message salt h1 h3 frames
+
+  -- each leaves the work slice's front zero, and so does acceptance
+  signature-clears : Clears checked-answer
+  unfolding checkSignature
+  signature-clears =
+      each-clears executions 0 _ (λ j. record { is = refl })
+      (require-clears _ (record { is = refl }) (require-clears _ (record { is = refl }) (record { is = refl })))
+
+  -- found is the lowest execution whose product fails
+  module _ {found : ℕ} (f : found ≡ lowest executions 0 (λ e. frameHolds (aesScheme S) (frames e))) where
+    pub product-refused : found < executions → ProductDiffers found ≡ checked-answer
+    unfolding checkSignature
+    product-refused l = sym (each-found _ ProductDiffers _ executions f l)
+
+    module _ (none : executions ≤ found) where
+      -- what the hashes answer
+      pub products-hold : checked-answer
+          ≡ require (same (recomputedH1 (aesScheme S) publicKey message salt h1 h3 frames) h1) FirstHashDiffers
+          (require (same (recomputedH3 (aesScheme S) publicKey message salt h1 h3 frames) h3) ThirdHashDiffers Accepted)
+      unfolding checkSignature
+      products-hold = each-none _ ProductDiffers _ executions f none
+
+      module _ {x : Bool} (first : x ≡ same (recomputedH1 (aesScheme S) publicKey message salt h1 h3 frames) h1) where
+        pub first-refused : x ≡ false → FirstHashDiffers ≡ checked-answer
+        unfolding require
+        first-refused p = sym (products-hold ∙ rw (← first, p))
+
+        module _ {y : Bool} (third : y ≡ same (recomputedH3 (aesScheme S) publicKey message salt h1 h3 frames) h3) where
+          pub third-refused : x ≡ true → y ≡ false → ThirdHashDiffers ≡ checked-answer
+          unfolding require
+          third-refused p q = sym (products-hold ∙ rw (← first, p, ← third, q))
+
+          pub all-hold : x ≡ true → y ≡ true → Accepted ≡ checked-answer
+          unfolding require
+          all-hold p q = sym (products-hold ∙ rw (← first, p, ← third, q))
+
+-- ---- the call
+
+module _ {S : Shape} (v : Valid S) (publicKey message s work : List ℕ) where
+  abbrev answer : Answer
+  answer = verifyAnswer (aesScheme S) publicKey message s work
+
+  -- the contract, where the answer is a and the work slice holds w
+  abbrev pub Called : Answer → List ℕ → Type 0
+  Called a w = (a ≡ answer) × (w ≡ workAfter answer work)
+
+  key-length : publicKeyLength S ≡ 32
+  key-length = ap (_+ 16) (v .plaintext)
+
+  pub key-refused : length publicKey ≢ 32 → Called PublicKeyLength work
+  unfolding verifyAnswer require workAfter
+  key-refused h = called work (simp (ne-eqb (length publicKey) (publicKeyLength S) (λ q. h (q ∙ key-length)))) refl
+
+  module _ (key : length publicKey ≡ 32) where
+    k : length publicKey ≡ publicKeyLength S
+    k = key ∙ sym key-length
+
+    pub message-refused : 32768 < length message → Called MessageLength work
+    unfolding verifyAnswer require workAfter
+    message-refused h = called work (simp (eq-eqb _ _ k, lt-leb _ _ h)) refl
+
+    module _ (short : length message ≤ 32768) where
+      pub file-refused : length s ≢ signatureLength S → Called FileLength work
+      unfolding verifyAnswer require workAfter
+      file-refused h = called work (simp (eq-eqb _ _ k, le-leb _ _ short, ne-eqb _ _ h)) refl
+
+      module _ (file : length s ≡ signatureLength S) where
+        pub work-refused : length work < 65536 → Called WorkLength work
+        unfolding verifyAnswer require workAfter
+        work-refused h = called work (simp (eq-eqb _ _ k, le-leb _ _ short, eq-eqb _ _ file, lt-leb _ _ h)) refl
+
+        -- the signature is checked, and the work slice's front is set to zero
+        module _ (room : 65536 ≤ length work) where
+          abbrev inner : Answer
+          inner =
+              checkSignature (aesScheme S) publicKey message (headPart (aesScheme S) 0 s) (headPart (aesScheme S) 1 s) (headPart (aesScheme S) 2 s)
+              (frameOf (aesScheme S) s)
+
+          lengths-right : answer ≡ inner
+          unfolding verifyAnswer require
+          lengths-right = simp (eq-eqb _ _ k, le-leb _ _ short, eq-eqb _ _ file, le-leb _ _ room)
+
+          pub checked : {r : Answer} {u w : List ℕ} → r ≡ inner → Scratch work u → w ≡ cleared u → Called r w
+          checked {r} q t e =
+              let clear : Clears r =
+              rw q (signature-clears S publicKey message (headPart (aesScheme S) 0 s) (headPart (aesScheme S) 1 s) (headPart (aesScheme S) 2 s)
+              (frameOf (aesScheme S) s)) in
+              called work (lengths-right ∙ sym q) (e ∙ cleared-scratch t ∙ work-clears work clear)

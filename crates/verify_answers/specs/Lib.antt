@@ -1,0 +1,2 @@
+-- The answers of the check of a signature.
+pub mod Answers
