@@ -3,13 +3,10 @@ use mathlib.Core.Path.{_≡_, refl, sym, ap, _∙_}
 use mathlib.Core.Bool.{Bool, true, false}
 use mathlib.Core.Logic.{_≢_}
 use mathlib.Core.List.{List}
-use Prim.Native.Nat.{ℕ, _+_, _-_, _<_, _≤_}
-use native.Mathlib.Omega.{arith}
-use lib.ListN.{length, take, drop, length-drop}
-use lib.Seq.{drop-drop, length-take-le}
+use Prim.Native.Nat.{ℕ, _+_, _<_, _≤_}
+use lib.ListN.{length}
 use borrow.Author.Tests.{eq-eqb, ne-eqb, le-leb, lt-leb}
 use Rattle.slices.specs.Lists.{same}
-use Rattle.slices.specs.Layout.{field}
 use Rattle.compare.specs.Lowest.{lowest}
 use Rattle.banquet.specs.declared.Shape.{Shape}
 use Rattle.banquet.specs.declared.Answer.{Answer}
@@ -32,37 +29,6 @@ use Rattle.scratch.specs.Scratch.{Scratch, cleared-scratch}
 use Rattle.scratch.specs.Each.{each-found, each-none}
 use Rattle.scratch.specs.Clears.{Clears, require-clears, each-clears, work-clears, called}
 use Rattle.sets.specs.Valid.{Valid}
-
--- ---- the head of a signature s as the code takes it: "salt, h1, h3 (32 each)"
-
-module _ (S : Shape) (s : List ℕ) where
-  pub salt-is : take (32 - 0) s ≡ headPart (aesScheme S) 0 s
-  unfolding field
-  salt-is = refl
-
-  pub h1-is : take (64 - 32) (drop 32 s) ≡ headPart (aesScheme S) 1 s
-  unfolding field
-  h1-is = refl
-
-  pub h3-is : take (96 - 64) (drop 64 s) ≡ headPart (aesScheme S) 2 s
-  unfolding field
-  h3-is = ap (take 32) (sym (drop-drop 32 32 s))
-
-  module _ (file : length s ≡ signatureLength S) where
-    pub head-long : (length (take (32 - 0) s) ≡ 32) × (length (take (64 - 32) (drop 32 s)) ≡ 32) × (length (take (96 - 64) (drop 64 s)) ≡ 32)
-    head-long = (
-      length-take-le 32 s (omega (arith, file)),
-      length-take-le 32 (drop 32 s) (omega (arith, file, length-drop 32 s)),
-      length-take-le 32 (drop 64 s) (omega (arith, file, length-drop 64 s)),
-    )
-
-    pub head-sizes : (length (headPart (aesScheme S) 0 s) ≡ 32) × (length (headPart (aesScheme S) 1 s) ≡ 32)
-        × (length (headPart (aesScheme S) 2 s) ≡ 32)
-    head-sizes = (
-      ap length (sym salt-is) ∙ head-long .0,
-      ap length (sym h1-is) ∙ head-long .1,
-      ap length (sym h3-is) ∙ head-long .2,
-    )
 
 -- ---- numbers 15, 16 and 17: "The first that applies is returned."
 

@@ -1,2 +1,3 @@
 -- The answers of the check of a signature.
+pub mod Head
 pub mod Answers
