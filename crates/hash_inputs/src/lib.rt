@@ -2,7 +2,6 @@
 use stream::Sponge;
 ghost use mathlib.Core.Path.{_≡_};
 ghost use mathlib.Core.List.{_∷_, _++_};
-ghost use Prim.Native.Nat.{_≤_};
 ghost use lib.ListN.{length};
 ghost use Rattle.slices.specs.Numbers.{bytesOf};
 ghost use Rattle.shake.specs.Shake128.{shake128};
@@ -10,7 +9,7 @@ ghost use Rattle.stream.specs.Stream.{empty, absorbed, finished, squeezed};
 
 // "1: public key, message length, message, salt, .."
 pub fn first_input(public: &[u8], message: &[u8], salt: &[u8]) -> Sponge
-    requires { ⌜ (length (now public) ≡ 32) × (length (now message) ≤ 32768) ⌝ }
+    requires { ⌜ length (now public) ≡ 32 ⌝ }
     ensures { λ r. ⌜ r
         ≡ absorbed empty (1 ∷ (now (public .entry) ++ bytesOf 4 (length (now (message .entry))) ++ now (message .entry) ++ now (salt .entry))) ⌝ }
 {

@@ -21,7 +21,7 @@ returns c =
     let p = s .args .public .now in
     let m = s .args .message .now in
     let head : List ℕ = 1 ∷ (p ++ bytesOf 4 (length m)) in
-    let is : store .store .last .0 ≡ head = first-input p (length m) (s .pre .0) (copy .copy-at .ensures) (store .store .ensures) in
+    let is : store .store .last .0 ≡ head = first-input p (length m) (s .pre) (copy .copy-at .ensures) (store .store .ensures) in
     joined (head ++ m) (s .args .salt .now)
     (joined head m (front .absorb .ensures ∙ ap₂ absorbed (begun .new .ensures) is) (c .before .absorb2 .ensures)) (c .absorb3 .ensures)
 
