@@ -1,2 +1,2 @@
--- The laws that the proof cites.
-mod Laws
+-- The laws that the proofs cite, here and above.
+pub mod Laws

@@ -1,0 +1,2 @@
+-- Bounds of an execution's numbers.
+pub mod Challenges

@@ -1,0 +1,3 @@
+-- Rows completed.
+pub mod Complete
+pub mod Rows
