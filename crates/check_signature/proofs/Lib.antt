@@ -1,0 +1,4 @@
+-- The laws that the proofs cite.
+mod Execution
+mod Parts
+mod Hashes

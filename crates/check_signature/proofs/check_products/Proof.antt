@@ -1,0 +1,75 @@
+-- `check_signature::check_products` meets its contract: number 15, then the hashes; only the front of the work slice is written. Assumes nothing.
+use mathlib.Core.Path.{_≡_, refl, sym, ap, _∙_}
+use mathlib.Core.List.{List}
+use Prim.Native.Nat.{ℕ, _*_, _≤_}
+use native.Mathlib.Omega.{arith}
+use lib.ListN.{length, replicate}
+use borrow.Author.Needs.{needs}
+use Rattle.slices.specs.Layout.{total}
+use Rattle.banquet.specs.declared.Shape.{Shape}
+use Rattle.sets.specs.Valid.{Valid}
+use Rattle.sets.specs.Bounds.{rowSizes, rows-most}
+use Rattle.scratch.proofs.Laws.{front-long, scratch-front}
+use Rattle.banquet.specs.Sets.{aesScheme}
+use Rattle.banquet.specs.Signature.{headPart, frameOf}
+use Rattle.verify_answers.specs.Answers.{product-refused, products-hold}
+use Rattle.check_signature.proofs.check_products.Statement.{statement}
+use Rattle.check_signature.proofs.check_products.Tie as tie
+
+returns : tie.Need-returns
+returns c =
+    let k = c .before in
+    let a = (k .before .before .before .before .before .before) .args in
+    let s = a .s .now in
+    let 𝓢 = aesScheme (a .shape) in (
+      product-refused (a .shape) (a .public .now) (a .message .now) (headPart 𝓢 0 s) (headPart 𝓢 1 s) (headPart 𝓢 2 s) (frameOf 𝓢 s)
+          ((k .before) .first-product .ensures) (c .if1 .taken),
+      record { long = refl; rest = refl },
+    )
+
+-- ---- room for the rows
+
+fit : {S : Shape} {len : ℕ} → Valid S → len ≡ total (rowSizes S) → S .parties * len ≤ 18176
+fit v e = rw e (rows-most v)
+
+module _ (r : tie.After-row-length) where
+  abbrev start : tie.Start
+  start = (r .before .before .before .before .before .before .before .before .before .before)
+
+  most : start .args .shape .parties * r .row-length .result ≤ 18176
+  most = fit (start .pre .0 .valid) (r .row-length .ensures)
+
+check-hashes-requires : tie.Need-check-hashes-requires
+check-hashes-requires c κs =
+    let r = (c .before .before .before .before) in
+    let s = start r in
+    let zeros : List ℕ = replicate 4096 0 in
+    let few : s .args .shape .parties ≤ 128 = s .pre .0 .valid .few in (
+      s .pre .0,
+      (c .before .before .before .before .before .before) .second-hash .ensures,
+      front-long (s .args .shape .parties * 32) zeros (omega (arith, few)),
+      front-long (s .args .shape .parties * r .row-length .result) (s .args .work .now) (omega (arith, most r, s .pre .1))
+          ∙ ap (λ n. s .args .shape .parties * n) (r .row-length .ensures),
+    )
+
+returns-2 : tie.Need-returns-2
+returns-2 c =
+    let x = (c .before .before .before) in
+    let r = (x .before .before .before .before .before) in
+    let a = start r .args in
+    let s = a .s .now in
+    let 𝓢 = aesScheme (a .shape) in
+    let l = (r .before .before .before) in (
+      x .check-hashes .ensures
+          ∙ sym (products-hold (a .shape) (a .public .now) (a .message .now) (headPart 𝓢 0 s) (headPart 𝓢 1 s) (headPart 𝓢 2 s) (frameOf 𝓢 s)
+          ((l .before .before) .first-product .ensures) (l .if1 .left)),
+      scratch-front (a .shape .parties * r .row-length .result) (a .work .now) (x .check-hashes .last .1 .1 .1 .1 .1 .1 .0)
+          (omega (arith, most r)) (start r .pre .1) (x .check-hashes .kept .1 .1 .1 .1 .1 .1 .0),
+    )
+
+pub check-products-spec : {M : Type 1} → statement M
+check-products-spec =
+    tie.close
+    (tie.spec (λ c κs. search needs) (λ c. search needs) returns (λ c κs. search needs) (λ c. search needs) (λ c κs. search needs)
+    (λ c. omega (arith, most (c .before))) (λ c. search needs) (λ c. search needs) (λ c. search needs) (λ c. search needs) (λ c. search needs)
+    (λ c. search needs) (λ c. omega (arith, most (c .before .before .before), start (c .before .before .before) .pre .1)) check-hashes-requires (λ c. search needs) returns-2)

@@ -1,0 +1,2 @@
+-- The steps of the check of a signature.
+pub mod Steps

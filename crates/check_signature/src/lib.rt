@@ -1,0 +1,263 @@
+// The check of a signature, for any parameter set.
+use banquet::Answer;
+use banquet::Shape;
+use frame_hashes::Hashes;
+ghost use mathlib.Core.Path.{_≡_};
+ghost use Prim.Native.Nat.{_-_, _*_, _<_, _≤_};
+ghost use lib.ListN.{length, take, drop};
+ghost use Rattle.slices.specs.Lists.{rows as rowsOf, same};
+ghost use Rattle.slices.specs.Layout.{total};
+ghost use Rattle.stream.specs.Stream.{absorbed, finished, squeezed};
+ghost use Rattle.banquet.specs.Shape.{firstChallengeLength};
+ghost use Rattle.banquet.specs.declared.Answer.the-variants.{Accepted, FirstHashDiffers, ThirdHashDiffers};
+ghost use Rattle.banquet.specs.Sets.{aesScheme};
+ghost use Rattle.banquet.specs.Answer.{require};
+ghost use Rattle.banquet.specs.Signature.{headPart, frameOf, recomputedH1, recomputedH3, checkSignature};
+ghost use Rattle.banquet.specs.Calls.{verify};
+ghost use Rattle.sets.specs.Valid.{Valid};
+ghost use Rattle.sets.specs.Bounds.{rowSizes};
+ghost use Rattle.scratch.specs.Scratch.{Scratch};
+ghost use Rattle.check_signature.specs.Steps.{Files, Drawn, h2Of, firstPart, thirdPart};
+
+// Execution e's parts of h1 and h3.
+fn absorb_execution(
+    shape: Shape,
+    public: &[u8],
+    s: &[u8],
+    e: usize,
+    firsts: &[u8],
+    seconds: &[u8],
+    thirds: &[u8],
+    hashes: Hashes,
+    commitments: &mut [u8],
+    rows: &mut [u8],
+) -> Hashes
+    requires { ⌜ Files shape (now public) (now s) × Drawn shape (now s) (now firsts) (now seconds) (now thirds) × (e < shape .executions)
+        × (length (now commitments) ≡ shape .parties * 32) × (length (now rows) ≡ shape .parties * total (rowSizes shape)) ⌝ }
+    ensures { λ r. ⌜ r .first ≡ absorbed (hashes .first) (firstPart shape (now (s .entry)) (now (public .entry)) e) ⌝ }
+    ensures { λ r. ⌜ r .third ≡ absorbed (hashes .third) (thirdPart shape (now (s .entry)) (now (public .entry)) e) ⌝ }
+{
+    let n = shape.m1 * shape.wide;
+    let a = e * n;
+    let b = a + n;
+    frame_hashes::absorb_frame(
+        shape,
+        public,
+        &s[0..32],
+        e as u8,
+        challenges::hidden(shape, thirds, e),
+        &firsts[a..b],
+        challenges::second(shape, seconds, e),
+        frames::frame(shape, s, e),
+        hashes,
+        commitments,
+        rows,
+    )
+}
+
+// Those of all executions, in one pass over the frames.
+fn absorb_executions(
+    shape: Shape,
+    public: &[u8],
+    s: &[u8],
+    firsts: &[u8],
+    seconds: &[u8],
+    thirds: &[u8],
+    start: Hashes,
+    commitments: &mut [u8],
+    rows: &mut [u8],
+) -> Hashes
+    requires { ⌜ Files shape (now public) (now s) × Drawn shape (now s) (now firsts) (now seconds) (now thirds)
+        × (length (now commitments) ≡ shape .parties * 32) × (length (now rows) ≡ shape .parties * total (rowSizes shape)) ⌝ }
+    ensures { λ r. ⌜ r .first ≡ absorbed (start .first) (rowsOf (firstPart shape (now (s .entry)) (now (public .entry))) (shape .executions)) ⌝ }
+    ensures { λ r. ⌜ r .third ≡ absorbed (start .third) (rowsOf (thirdPart shape (now (s .entry)) (now (public .entry))) (shape .executions)) ⌝ }
+{
+    let n = shape.executions;
+    let mut t = start;
+    for e in 0..n {
+        let u = absorb_execution(
+            shape,
+            public,
+            s,
+            e,
+            firsts,
+            seconds,
+            thirds,
+            t,
+            commitments,
+            rows,
+        );
+        t = u;
+    }
+    t
+}
+
+// The same, the challenges being drawn.
+fn absorb_drawn(
+    shape: Shape,
+    public: &[u8],
+    s: &[u8],
+    h2: &[u8],
+    firsts: &mut [u8],
+    seconds: &mut [u8],
+    thirds: &mut [u8],
+    start: Hashes,
+    commitments: &mut [u8],
+    rows: &mut [u8],
+) -> Hashes
+    requires { ⌜ Files shape (now public) (now s) × (now h2 ≡ h2Of shape (now s))
+        × (length (now firsts) ≡ shape .executions * firstChallengeLength shape) × (length (now seconds) ≡ shape .executions * shape .wide)
+        × (length (now thirds) ≡ shape .executions * 4) × (length (now commitments) ≡ shape .parties * 32)
+        × (length (now rows) ≡ shape .parties * total (rowSizes shape)) ⌝ }
+    ensures { λ r. ⌜ r .first ≡ absorbed (start .first) (rowsOf (firstPart shape (now (s .entry)) (now (public .entry))) (shape .executions)) ⌝ }
+    ensures { λ r. ⌜ r .third ≡ absorbed (start .third) (rowsOf (thirdPart shape (now (s .entry)) (now (public .entry))) (shape .executions)) ⌝ }
+{
+    hash_inputs::draw(6, &s[32..64], firsts);
+    hash_inputs::draw(7, h2, seconds);
+    hash_inputs::draw(8, &s[64..96], thirds);
+    absorb_executions(
+        shape,
+        public,
+        s,
+        firsts,
+        seconds,
+        thirds,
+        start,
+        commitments,
+        rows,
+    )
+}
+
+// The same, with room for what is drawn.
+fn recomputed(
+    shape: Shape,
+    public: &[u8],
+    s: &[u8],
+    h2: &[u8],
+    start: Hashes,
+    commitments: &mut [u8],
+    rows: &mut [u8],
+) -> Hashes
+    requires { ⌜ Files shape (now public) (now s) × (now h2 ≡ h2Of shape (now s)) × (length (now commitments) ≡ shape .parties * 32)
+        × (length (now rows) ≡ shape .parties * total (rowSizes shape)) ⌝ }
+    ensures { λ r. ⌜ r .first ≡ absorbed (start .first) (rowsOf (firstPart shape (now (s .entry)) (now (public .entry))) (shape .executions)) ⌝ }
+    ensures { λ r. ⌜ r .third ≡ absorbed (start .third) (rowsOf (thirdPart shape (now (s .entry)) (now (public .entry))) (shape .executions)) ⌝ }
+{
+    let n = shape.executions;
+    let f = n * (shape.m1 * shape.wide);
+    let w = n * shape.wide;
+    let p = n * 4;
+    let mut firsts = [0u8; 15360];
+    let mut seconds = [0u8; 1536];
+    let mut thirds = [0u8; 1024];
+    absorb_drawn(
+        shape,
+        public,
+        s,
+        h2,
+        &mut firsts[0..f],
+        &mut seconds[0..w],
+        &mut thirds[0..p],
+        start,
+        commitments,
+        rows,
+    )
+}
+
+// Numbers 16 and 17, from what the two hashes have absorbed.
+fn compare_hashes(s: &[u8], t: Hashes) -> Answer
+    requires { ⌜ 96 ≤ length (now s) ⌝ }
+    ensures { λ r. ⌜ r
+        ≡ require (same (squeezed (finished (t .first)) 32) (take (64 - 32) (drop 32 (now (s .entry))))) FirstHashDiffers
+        (require (same (squeezed (finished (t .third)) 32) (take (96 - 64) (drop 64 (now (s .entry))))) ThirdHashDiffers Accepted) ⌝ }
+{
+    let mut first = [0u8; 32];
+    hash_inputs::output(t.first, &mut first);
+    if !slices::equal(&first, &s[32..64]) {
+        return Answer::FirstHashDiffers;
+    }
+    let mut third = [0u8; 32];
+    hash_inputs::output(t.third, &mut third);
+    if !slices::equal(&third, &s[64..96]) {
+        return Answer::ThirdHashDiffers;
+    }
+    Answer::Accepted
+}
+
+// Numbers 16 and 17, where h2 is the signature's own.
+fn check_hashes(
+    shape: Shape,
+    public: &[u8],
+    message: &[u8],
+    s: &[u8],
+    h2: &[u8],
+    commitments: &mut [u8],
+    rows: &mut [u8],
+) -> Answer
+    requires { ⌜ Files shape (now public) (now s) × (now h2 ≡ h2Of shape (now s)) × (length (now commitments) ≡ shape .parties * 32)
+        × (length (now rows) ≡ shape .parties * total (rowSizes shape)) ⌝ }
+    ensures { λ r. ⌜ r
+        ≡ require (same (recomputedH1 (aesScheme shape) (now (public .entry)) (now (message .entry)) (headPart (aesScheme shape) 0 (now (s .entry)))
+        (headPart (aesScheme shape) 1 (now (s .entry))) (headPart (aesScheme shape) 2 (now (s .entry))) (frameOf (aesScheme shape) (now (s .entry))))
+        (headPart (aesScheme shape) 1 (now (s .entry)))) FirstHashDiffers
+        (require (same (recomputedH3 (aesScheme shape) (now (public .entry)) (now (message .entry)) (headPart (aesScheme shape) 0 (now (s .entry)))
+        (headPart (aesScheme shape) 1 (now (s .entry))) (headPart (aesScheme shape) 2 (now (s .entry))) (frameOf (aesScheme shape) (now (s .entry))))
+        (headPart (aesScheme shape) 2 (now (s .entry)))) ThirdHashDiffers Accepted) ⌝ }
+{
+    let start = Hashes {
+        first: hash_inputs::first_input(public, message, &s[0..32]),
+        third: hash_inputs::tagged(3, h2),
+    };
+    let t = recomputed(shape, public, s, h2, start, commitments, rows);
+    compare_hashes(s, t)
+}
+
+// Number 15, and then those.
+fn check_products(shape: Shape, public: &[u8], message: &[u8], s: &[u8], work: &mut [u8]) -> Answer
+    requires { ⌜ Files shape (now public) (now s) × (65536 ≤ length (now work)) ⌝ }
+    ensures { λ r. ⌜ r ≡ checkSignature (aesScheme shape) (now (public .entry)) (now (message .entry)) (headPart (aesScheme shape) 0 (now (s .entry)))
+        (headPart (aesScheme shape) 1 (now (s .entry))) (headPart (aesScheme shape) 2 (now (s .entry))) (frameOf (aesScheme shape) (now (s .entry))) ⌝ }
+    ensures { λ _. ⌜ Scratch (now (work .entry)) (now (work .exit)) ⌝ }
+{
+    let found = frame_products::first_product(shape, s);
+    if found < shape.executions {
+        return Answer::ProductDiffers(found as u8);
+    }
+    let h2 = second_hash::second_hash(shape, s);
+    let mut commitments = [0u8; 4096];
+    let c = shape.parties * 32;
+    let r = shape.parties * sets::row_length(shape);
+    check_hashes(
+        shape,
+        public,
+        message,
+        s,
+        &h2,
+        &mut commitments[0..c],
+        &mut work[0..r],
+    )
+}
+
+// The call, which refuses by lengths first.
+pub fn check(shape: Shape, public: &[u8], message: &[u8], s: &[u8], work: &mut [u8]) -> Answer
+    requires { ⌜ Valid shape ⌝ }
+    ensures { λ r. ⌜ r ≡ verify (aesScheme shape) (now (public .entry)) (now (message .entry)) (now (s .entry)) (now (work .entry)) .answer ⌝ }
+    ensures { λ _. ⌜ now (work .exit)
+        ≡ verify (aesScheme shape) (now (public .entry)) (now (message .entry)) (now (s .entry)) (now (work .entry)) .work ⌝ }
+{
+    if public.len() != 32 {
+        return Answer::PublicKeyLength;
+    }
+    if 32768 < message.len() {
+        return Answer::MessageLength;
+    }
+    if s.len() != frames::signature_length(shape) {
+        return Answer::FileLength;
+    }
+    if work.len() < 65536 {
+        return Answer::WorkLength;
+    }
+    let answer = check_products(shape, public, message, s, work);
+    scratch::clear(work);
+    answer
+}

@@ -1,0 +1,29 @@
+// Two of the five calls, for document 01's set: "seal; check a seal".
+use banquet::Answer;
+use banquet::Shape;
+ghost use mathlib.Core.Path.{_≡_};
+ghost use Rattle.banquet.specs.Sets.{baseScheme};
+ghost use Rattle.banquet.specs.Calls.{verify as verifyOf};
+
+// "with 16 parties, 41 executions, lift factor 4, m1 = 10 and m2 = 20"
+const BASE: Shape = Shape {
+    parties: 16,
+    depth: 4,
+    executions: 41,
+    wide: 4,
+    low: 0x8d,
+    y: 1084517114,
+    m1: 10,
+    m2: 20,
+    front: 16,
+};
+
+// A signature is checked. After 15 to 17 and on success the work slice's first 65,536 bytes are zero; else it is untouched.
+pub fn verify(public: &[u8], message: &[u8], signature: &[u8], work: &mut [u8]) -> Answer
+    ensures { λ r. ⌜ r ≡ verifyOf baseScheme (now (public .entry)) (now (message .entry)) (now (signature .entry)) (now (work .entry)) .answer ⌝ }
+    ensures { λ _. ⌜ now (work .exit)
+        ≡ verifyOf baseScheme (now (public .entry)) (now (message .entry)) (now (signature .entry)) (now (work .entry)) .work ⌝ }
+{
+    let shape = BASE;
+    check_signature::check(shape, public, message, signature, work)
+}

@@ -1,0 +1,80 @@
+#!/usr/bin/env python3
+"""What crates/vectors_signature reads and writes: python3 vectors/signature.py ORACLE, from the repository's root
+
+ORACLE is the directory of oracle.py, an implementation of document 01 in plain Python that was written apart from this repository, with the vectors
+that it made: keys, signatures, and altered signatures and inputs, each with the answer that its tamper.py works out by rule. The answers here are
+check_seal's, and are compared with the vectors' own. How work ends is document 01's rule. The program's source says what stands in a line.
+"""
+import json
+import os
+import sys
+
+sys.dont_write_bytecode = True
+sys.path.insert(0, sys.argv[1])
+import oracle  # noqa: E402
+import tamper  # noqa: E402
+
+WORK, SIGNATURE, MESSAGE = oracle.WORK_LEN, 19776, 32768
+WORK_ROOM = 65600
+# where what is lent stands
+AT = {'public_key': 17, 'message': 740, 'signature': 33509}
+lent = bytearray(53286)
+read, written = [], []
+
+
+def numbers(*pairs):
+    """Each with its count of bytes, low byte first."""
+    return b''.join(n.to_bytes(size, 'little') for size, n in pairs)
+
+
+def lend(name, value):
+    """Of what is lent only what changes is written, from its first byte to its last."""
+    at = AT[name]
+    differ = [i for i, byte in enumerate(value) if lent[at + i] != byte]
+    if differ:
+        a, b = at + differ[0], at + differ[-1] + 1
+        lent[at:at + len(value)] = value
+        read.append('i' + (numbers((3, a), (3, b - a)) + lent[a:b]).hex())
+
+
+def told(answer):
+    return (0, 0) if answer[0] == 'accepted' else answer[1:]
+
+
+def verify(public_key, message, signature, work=WORK):
+    lend('public_key', public_key)
+    lend('message', message)
+    lend('signature', signature)
+    verdict = told(oracle.check_seal(public_key, message, signature, work))
+    read.append('v' + numbers((1, len(public_key)), (3, len(message)), (3, len(signature)), (3, work)).hex())
+    zeros = WORK if verdict[0] in (0, 15, 16, 17) else 0
+    written.append(' '.join(map(str, ('v', *verdict, zeros, WORK_ROOM))))
+    return verdict
+
+
+def expected(item):
+    return item['expected'].get('number', 0), item['expected'].get('place', 0)
+
+
+def changes_of(item):
+    return [tuple(bytes.fromhex(change[field]) if field == 'hex' else change[field] for field in ('op', 'at', 'length', 'hex') if field in change)
+            for change in item['changes']]
+
+
+vectors = []
+for name in ('vector_000.json', 'vector_001.json', 'vector_002.json'):
+    with open(os.path.join(sys.argv[1], 'vectors', name)) as file:
+        vectors.append(json.load(file))
+for i, v in enumerate(vectors):
+    public_key, message, signature = (bytes.fromhex(v[field]) for field in ('public_key', 'message', 'seal'))
+    assert verify(public_key, message, signature, WORK + i) == (0, 0)
+    for item in v['tampered_seals'] if i == 0 else v['tampered_seals'][:3]:
+        assert verify(public_key, message, tamper.apply(signature, changes_of(item))) == expected(item), item['name']
+    for item in v['tampered_inputs'] if i == 0 else []:
+        other = bytes(item['message_zero_bytes']) if item['message'] is None else bytes.fromhex(item['message'])
+        assert verify(bytes.fromhex(item['public_key']), other, signature) == expected(item), item['name']
+
+with open('crates/vectors_signature/stdin', 'w') as f:
+    f.write(''.join(line + '\n' for line in read))
+with open('crates/vectors_signature/stdout', 'w') as f:
+    f.write(''.join(line + '\n' for line in written))
