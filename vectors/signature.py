@@ -3,7 +3,8 @@
 
 ORACLE is the directory of oracle.py, an implementation of document 01 in plain Python that was written apart from this repository, with the vectors
 that it made: keys, signatures, and altered signatures and inputs, each with the answer that its tamper.py works out by rule. The answers here are
-check_seal's, and are compared with the vectors' own. How work ends is document 01's rule. The program's source says what stands in a line.
+check_seal's, and are compared with the vectors' own. How work ends is document 01's rule. The program's source says what stands in a line. Of the
+second and third vector only the first three altered signatures are taken.
 """
 import json
 import os
@@ -73,6 +74,18 @@ for i, v in enumerate(vectors):
     for item in v['tampered_inputs'] if i == 0 else []:
         other = bytes(item['message_zero_bytes']) if item['message'] is None else bytes.fromhex(item['message'])
         assert verify(bytes.fromhex(item['public_key']), other, signature) == expected(item), item['name']
+
+# lengths, and the first of two reasons
+public_key, message, signature = (bytes.fromhex(vectors[0][field]) for field in ('public_key', 'message', 'seal'))
+for n in 0, 31, 33:
+    assert verify((public_key + b'\0')[:n], message, signature) == (2, 0)
+for work in 0, WORK - 1:
+    assert verify(public_key, message, signature, work) == (7, 0)
+assert verify(public_key, message, signature, WORK_ROOM) == (0, 0)
+assert verify(public_key[:31], bytes(MESSAGE + 1), signature[:-1], 0) == (2, 0)
+assert verify(public_key, bytes(MESSAGE + 1), signature[:-1], 0) == (3, 0)
+assert verify(public_key, bytes(MESSAGE), signature + b'\0', 0) == (6, 0)
+assert verify(public_key, bytes(MESSAGE), signature) == (16, 0)
 
 with open('crates/vectors_signature/stdin', 'w') as f:
     f.write(''.join(line + '\n' for line in read))
