@@ -27,7 +27,7 @@ module _ (S : Shape) (s : List ℕ) where
   abbrev h3 : List ℕ
   h3 = headPart (aesScheme S) 2 s
 
-  -- the signature's own h2
+  -- the signature's own h2: "2: h1, all product offsets"
   abbrev pub h2Of : List ℕ
   h2Of = secondHash (aesScheme S) h1 (λ e. framePart (aesScheme S) (frameOf (aesScheme S) s e) 4)
 

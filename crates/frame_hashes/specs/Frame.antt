@@ -37,13 +37,13 @@ use Rattle.sets.specs.Laws.{laws}
 use Rattle.forms.specs.Party.{committed, shareRow}
 use Rattle.frame_hashes.specs.Linear.{layout-fields, numbers-back, field-left, length-left, number-left, numbers-left}
 
--- the sum of all parties' rows: the ciphertext, c, a, b
+-- the sum of all parties' rows: "the hidden output share from the ciphertext", and the frame's c, a, b
 abbrev pub wholeRow : Shape → List ℕ → List ℕ → List ℕ
 wholeRow S publicKey frame =
     ciphertextOf (aesScheme S) publicKey
     ++ (framePart (aesScheme S) frame 5 ++ (framePart (aesScheme S) frame 6 ++ framePart (aesScheme S) frame 7))
 
--- the seeds that the sibling seeds expand to
+-- the seeds that the frame's "sibling seeds from the top down" expand to
 abbrev pub seedShown : Shape → List ℕ → ℕ → ℕ → List ℕ → ℕ → List ℕ
 seedShown S salt e hidden frame i = seedAt (shownLeaves shake128 salt e (S .depth) 0 (framePart (aesScheme S) frame 0) hidden) i
 
@@ -70,7 +70,7 @@ module _ (S : Shape) (publicKey salt : List ℕ) (e hidden : ℕ) (first : List 
   abbrev whole : List ℕ
   whole = wholeRow S publicKey frame
 
-  -- party i's row
+  -- party i's row: "The checker works hidden shares out as sum minus the rest"
   unfoldable pub frameRow : ℕ → List ℕ
   frameRow = completedRow parties hidden whole (λ i. shareRow (aesScheme S) committedShown challengeShown i (tapeShown i))
 
@@ -99,10 +99,11 @@ module _ (S : Shape) (publicKey salt : List ℕ) (e hidden : ℕ) (first : List 
   abbrev rowB : ℕ → ℕ → ℕ
   rowB i j = completed (aesScheme S) hidden (frameB (aesScheme S) frame j) (λ k. shareB k j) i
 
-  -- what h1 and h3 bind of the execution
+  -- h1: "16 commitments, 16 output shares, key offset, 200 inverse offsets"
   unfoldable pub shownH1 : List ℕ
   shownH1 = h1Part (aesScheme S) frameCommitment rowO (shown 2) (shown 3)
 
+  -- h3: "the sums c, a, b and each party's c, a, b"
   unfoldable pub shownH3 : List ℕ
   shownH3 = h3Part (aesScheme S) (frameC (aesScheme S) frame) (frameA (aesScheme S) frame) (frameB (aesScheme S) frame) rowC rowA rowB
 

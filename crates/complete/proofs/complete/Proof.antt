@@ -18,7 +18,7 @@ mul-a : tie.Need-mul-a
 mul-a c = omega (arith, fits (c .before .before .before))
 
 copy-at-requires : tie.Need-copy-at-requires
-copy-at-requires c κs = fits (c .before .before .before .before)
+copy-at-requires c κs = omega (arith, fits (c .before .before .before .before))
 
 module _ (p : tie.After-copy-at) where
   abbrev start : tie.Start
