@@ -1,26 +1,21 @@
 -- An execution's challenges among those drawn for all, and its parts of h1 and h3. Assumes nothing.
-use mathlib.Core.Path.{_≡_, refl, sym, ap, _∙_}
+use mathlib.Core.Path.{_≡_, refl, ap, _∙_}
 use mathlib.Core.List.{List, _∷_}
-use Prim.Native.Nat.{ℕ, _+_, _*_, _^_, _<_, _≤_}
+use Prim.Native.Nat.{ℕ, _+_, _*_, _<_, _≤_}
 use native.Mathlib.Nat.{mul-le-mul}
-use native.Mathlib.Numerals.{add-one}
 use native.Mathlib.Omega.{arith}
 use lib.ListN.{length}
-use Rattle.slices.specs.Lists.{rows, row}
+use Rattle.slices.specs.Lists.{row}
 use Rattle.slices.specs.Bytes.{Sized}
 use Rattle.slices.specs.Numbers.{numberAt}
 use Rattle.slices.proofs.Rows.{row-fits}
 use Rattle.shake.specs.Shake128.{shake128}
 use Rattle.shake.specs.Laws.{sized-shake}
-use Rattle.stream.specs.declared.Sponge.{Sponge}
-use Rattle.stream.specs.Stream.{absorbed}
-use Rattle.stream.proofs.Stream.{absorbed-append}
 use Rattle.banquet.specs.declared.Shape.{Shape}
-use Rattle.banquet.specs.Shape.{firstChallengeLength, frameSizes}
+use Rattle.banquet.specs.Shape.{firstChallengeLength}
 use Rattle.banquet.specs.Sets.{aesScheme}
 use Rattle.banquet.specs.Hash.{evaluationPoint, partyOf, firstChallenge, secondChallenge, hiddenParty}
 use Rattle.banquet.specs.Signature.{headPart, frameOf, frameH1Part, frameH3Part}
-use Rattle.sets.specs.Valid.{Valid}
 use Rattle.sets.specs.Bounds.{by-ten}
 use Rattle.challenges.specs.Challenges.{second-wide, hidden-lt}
 use Rattle.frames.specs.Frames.{sized-frame}
@@ -94,10 +89,3 @@ module _ {S : Shape} {publicKey s firsts seconds thirds : List ℕ} (f : Files S
       pub third-part : shownH3 S publicKey salt e hidden first second frame (seedShown S salt e hidden frame) ≡ thirdPart S s publicKey e
       unfolding shownH3 frameH3Part
       third-part = rw (salt-is, hidden-right, first-right, second-right, frame-is) refl
-
--- one execution more
-pub part-more : (part : ℕ → List ℕ) (e : ℕ) (start : Sponge) {t u : Sponge} → t ≡ absorbed start (rows part e) → u ≡ absorbed t (part e)
-    → u ≡ absorbed start (rows part (e + 1))
-part-more part e start p q =
-    q ∙ ap (λ x. absorbed x (part e)) p ∙ sym (absorbed-append start (rows part e) (part e))
-    ∙ ap (λ (k : ℕ). absorbed start (rows part k)) (sym (add-one e))

@@ -1,5 +1,5 @@
 -- A test that two lists are the same, as the code makes it; and the hashes recomputed, from what is absorbed. Assumes nothing.
-use mathlib.Core.Path.{_≡_, refl, sym, ap, ap₂, _∙_}
+use mathlib.Core.Path.{_≡_, sym, ap, ap₂, _∙_}
 use mathlib.Core.Bool.{Bool, true, false, not}
 use mathlib.Core.List.{List, _∷_, _++_}
 use Prim.Native.Nat.{ℕ, _-_}
@@ -9,10 +9,9 @@ use borrow.Author.Tests.{not-true, not-false}
 use Rattle.slices.specs.Lists.{rows, same}
 use Rattle.slices.specs.Bytes.{Bytes, cons-bytes, append-bytes, rows-bytes, take-bytes}
 use Rattle.slices.specs.Numbers.{bytesOf, bytesOf-bytes}
+use Rattle.absorb_rows.proofs.Laws.{hashed}
 use Rattle.stream.specs.declared.Sponge.{Sponge}
 use Rattle.stream.specs.Stream.{empty, absorbed, finished, squeezed}
-use Rattle.stream.proofs.Stream.{joined}
-use Rattle.stream.proofs.Shake.{output}
 use Rattle.shake.specs.Shake128.{shake128}
 use Rattle.banquet.specs.declared.Shape.{Shape}
 use Rattle.banquet.specs.declared.Answer.{Answer}
@@ -41,11 +40,6 @@ module _ {h : List ℕ} {x : Bool} (u g : List ℕ) (refusal rest : Answer) (e :
   passed n = sym (simp (tested, not-false x n))
 
 -- ---- the hashes
-
--- what was absorbed first, and then the parts of all executions
-pub hashed : (head parts : List ℕ) {s t : Sponge} → Bytes head → Bytes parts → s ≡ absorbed empty head → t ≡ absorbed s parts
-    → squeezed (finished t) 32 ≡ shake128 (head ++ parts) 32
-hashed head parts p q e f = output (head ++ parts) 32 (append-bytes p q) (joined head parts e f) refl
 
 module _ {S : Shape} {publicKey message s : List ℕ} (f : Files S publicKey s) (m : Bytes message) where
   abbrev salt : List ℕ

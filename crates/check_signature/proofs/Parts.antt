@@ -1,14 +1,12 @@
 -- What h1 and h3 bind of an execution is bytes. Assumes nothing.
-use mathlib.Core.Path.{_≡_}
 use mathlib.Core.List.{List, []}
 use Prim.Native.Nat.{ℕ, _<_}
-use Rattle.slices.specs.Lists.{zipXor, sumXor}
 use Rattle.slices.specs.Bytes.{Bytes, Sized, nil-bytes, append-bytes, rows-bytes, drop-bytes}
 use Rattle.slices.specs.Sums.{zip-bytes, sum-bytes}
 use Rattle.slices.specs.Numbers.{bytesOf-bytes, numbers-bytes}
-use Rattle.slices.specs.Layout.{total, sized-field, field-bytes}
+use Rattle.slices.specs.Layout.{total, sized-field}
 use Rattle.shake.specs.Laws.{sized-shake}
-use Rattle.poly.specs.Index.{at, at-cases}
+use Rattle.poly.specs.Index.{at-cases}
 use Rattle.banquet.specs.declared.Shape.{Shape}
 use Rattle.banquet.specs.Shape.{frameSizes}
 use Rattle.banquet.specs.Sets.{aesScheme}

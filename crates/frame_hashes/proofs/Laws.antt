@@ -9,9 +9,7 @@ use Rattle.slices.specs.Lists.{rows, row}
 use Rattle.slices.specs.Tab.{rows-cong, row-of-rows}
 use Rattle.slices.specs.Layout.{total, field}
 use Rattle.slices.proofs.Put.{Wrote, wrote-all}
-use Rattle.stream.specs.declared.Sponge.{Sponge}
 use Rattle.stream.specs.Stream.{absorbed}
-use Rattle.stream.proofs.Stream.{absorbed-append}
 use Rattle.complete.specs.Complete.{completedRow}
 use Rattle.complete.specs.Rows.{completed-cong}
 use Rattle.banquet.specs.declared.Shape.{Shape}
@@ -24,10 +22,6 @@ use Rattle.sets.specs.Bounds.{rowSizes, row-total}
 use Rattle.forms.specs.Party.{committed, shareRow}
 use Rattle.frame_hashes.specs.Given.{Given}
 use Rattle.frame_hashes.specs.Frame.{wholeRow, committedShown, challengeShown, frameRow, shown-long}
-
--- one piece more
-pub more : (s : Sponge) {t u : Sponge} (a b : List ℕ) → t ≡ absorbed s a → u ≡ absorbed t b → u ≡ absorbed s (a ++ b)
-more s a b e f = f ∙ ap (λ x. absorbed x b) e ∙ sym (absorbed-append s a b)
 
 -- a column of the rows
 pub column-fits : {S : Shape} (v : Valid S) (rows : List ℕ) {len : ℕ} (from n : ℕ) → length rows ≡ S .parties * total (rowSizes S)

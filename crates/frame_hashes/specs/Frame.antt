@@ -1,8 +1,8 @@
 -- The parties of an execution as its frame shows them: their commitments; each one's shares in a row, the hidden one's being what the others leave of
 -- the sums; and what h1 and h3 bind of these. Assumes nothing.
-use mathlib.Core.Path.{_≡_, refl, sym, ap, ap₂, _∙_}
+use mathlib.Core.Path.{_≡_, sym, ap, ap₂, _∙_}
 use mathlib.Core.List.{List, [], _∷_, _++_, append-nil, append-assoc}
-use Prim.Native.Nat.{ℕ, _+_, _*_, _^_, _<_, _≤_}
+use Prim.Native.Nat.{ℕ, _+_, _*_, _<_, _≤_}
 use native.Mathlib.Decide.{ℕ-discrete}
 use native.Mathlib.Omega.{arith}
 use lib.Bits.{bitXor}
@@ -12,7 +12,7 @@ use Rattle.slices.specs.Lists.{rows, row, part, zipXor, sumXor}
 use Rattle.slices.specs.Tab.{rows-cong, row-of-rows}
 use Rattle.slices.specs.Bytes.{Bytes, Sized, drop-bytes}
 use Rattle.slices.specs.Sums.{sumXor-cong}
-use Rattle.slices.specs.Numbers.{number, numberAt, numbers, bytesOf, bytesOf-number, length-bytesOf, length-numbers, numberAt-lt}
+use Rattle.slices.specs.Numbers.{numbers, bytesOf, bytesOf-number, length-bytesOf, length-numbers, numberAt-lt}
 use Rattle.slices.specs.Layout.{total, field, layout, HasSizes, field-layout, length-layout, sized-field}
 use Rattle.shake.specs.Shake128.{shake128}
 use Rattle.poly.specs.Index.{at, at-same, at-other, at-cases}

@@ -3,13 +3,13 @@ use mathlib.Core.Path.{_≡_, refl, sym, ap, ap₂, _∙_}
 use mathlib.Core.Bool.{Bool, true, false}
 use mathlib.Core.List.{List, [], _∷_, _++_}
 use Prim.Native.Nat.{ℕ, zero, suc, _+_, _*_, _^_, _<_, _≤_}
-use native.Mathlib.Nat.{zero-mul, suc-mul, mod-eq-of-lt}
+use native.Mathlib.Nat.{mod-eq-of-lt}
 use native.Mathlib.Omega.{arith}
 use lib.Bits.{bitXor}
 use lib.Dec.{eqb}
-use lib.ListN.{length, getD, take, drop, take-append-drop, length-drop}
+use lib.ListN.{length, take, drop, take-append-drop, length-drop}
 use lib.Seq.{take-all, take-nil, drop-nil}
-use Rattle.slices.specs.Lists.{choose, tab, rows, row, zipXor, sumXor}
+use Rattle.slices.specs.Lists.{choose, tab, row, zipXor, sumXor}
 use Rattle.slices.specs.Tab.{rows-cong}
 use Rattle.slices.specs.Bytes.{Bytes, Sized, nil-bytes}
 use Rattle.slices.specs.Sums.{sumXor-cong, sum-bytes, zip-bytes, length-zip-sum}
@@ -30,7 +30,7 @@ use Rattle.slices.specs.Layout.{total, field, layout}
 use Rattle.poly.specs.Index.{at, at-cases}
 use Rattle.poly.specs.Sum.{sum, sum-cong}
 use Rattle.field.specs.Wide.{ops}
-use Rattle.forms.specs.Point.{xorSum, sum-xor}
+use Rattle.forms.specs.Point.{sum-xor}
 use Rattle.forms.specs.Linear.{field-zip, field-sum, number-zip, number-sum, numberAt-zip, numberAt-sum}
 use Rattle.forms.specs.Stated.{rows-of, sized-row}
 

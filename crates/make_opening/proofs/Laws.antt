@@ -5,25 +5,16 @@ use Prim.Native.Nat.{ℕ, _-_, _*_, _^_, _≤_}
 use native.Mathlib.Nat.{mul-le-mul-right}
 use native.Mathlib.Omega.{arith}
 use lib.ListN.{length, length-map}
-use borrow.Rule.Slice.PartMut.{putMid}
 use Rattle.field.specs.Byte.{inverse8}
 use Rattle.shake.specs.Shake128.{shake128}
 use Rattle.aes.specs.Sizes.{length-sboxInputs}
 use Rattle.banquet.specs.declared.Shape.{Shape}
-use Rattle.banquet.specs.declared.Answer.the-variants.{Accepted}
 use Rattle.banquet.specs.Sets.{aesScheme}
-use Rattle.banquet.specs.Answer.{outputAfter}
 use Rattle.banquet.specs.Key.{frontOf}
 use Rattle.banquet.specs.Tree.{nodeSeeds, leaves}
 use Rattle.tree.specs.Rows.{length-leaf-seeds}
 use Rattle.sets.specs.Valid.{Valid}
 use Rattle.make_opening.specs.Steps.{Inverted}
-
--- ---- a front that was lent and comes back
-
-pub front-output : (n : ℕ) (d : List ℕ) {y s : List ℕ} → y ≡ s → length s ≡ n → putMid 0 (n - 0) d y ≡ outputAfter Accepted s d
-unfolding outputAfter
-front-output n d {y} {s} e h = let z : n - 0 ≡ length s = omega (arith, h) in rw (z, e)
 
 module _ {S : Shape} (v : Valid S) where
   open Shape S using (parties, depth)

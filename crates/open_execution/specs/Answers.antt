@@ -1,14 +1,12 @@
 -- The answer of the call that opens an execution, case by case, and what it leaves in the output and in the work slice. Assumes nothing.
 use mathlib.Core.Path.{_≡_, refl, sym, ap, _∙_}
-use mathlib.Core.Bool.{true, false}
 use mathlib.Core.Logic.{_≢_}
 use mathlib.Core.List.{List}
-use Prim.Native.Nat.{ℕ, _+_, _*_, _<_, _≤_}
+use Prim.Native.Nat.{ℕ, _+_, _<_, _≤_}
 use native.Mathlib.Omega.{arith}
 use lib.Dec.{ltb, leb}
 use lib.ListN.{length}
 use borrow.Author.Tests.{eq-eqb, ne-eqb, lt-ltb, le-ltb, le-leb, lt-leb}
-use Rattle.slices.specs.Lists.{same}
 use Rattle.banquet.specs.declared.Shape.{Shape}
 use Rattle.banquet.specs.declared.Answer.{Answer}
 use Rattle.banquet.specs.declared.Answer.the-variants.{
@@ -22,17 +20,15 @@ use Rattle.banquet.specs.declared.Answer.the-variants.{
   ExecutionRange,
   HiddenPartyRange,
   SecondChallengeRange,
-  ZeroInput,
-  WrongKey,
 }
 use Rattle.banquet.specs.Shape.{publicKeyLength, firstChallengeLength, openingLength}
 use Rattle.banquet.specs.Sets.{aesScheme}
 use Rattle.banquet.specs.Answer.{require, cleared, workAfter, outputAfter}
-use Rattle.banquet.specs.Key.{checkInputs, checkKey, zeroInput, frontOf, ciphertextOf}
+use Rattle.banquet.specs.Key.{checkKey}
 use Rattle.banquet.specs.Opening.{opening}
 use Rattle.banquet.specs.Calls.{openAnswer}
 use Rattle.sets.specs.Valid.{Valid}
-use Rattle.sets.specs.Bounds.{all-sboxes}
+use Rattle.check_key.specs.Refused.{Refusal, refusal-untouched}
 use Rattle.make_opening.specs.Steps.{Lengths, Ranges}
 
 module _ {S : Shape} (v : Valid S) (key publicKey salt root first : List ℕ) (e second hidden : ℕ) (output work : List ℕ) where
@@ -129,9 +125,6 @@ module _ {S : Shape} (v : Valid S) (key publicKey salt root first : List ℕ) (e
     -- ---- by the key, where the numbers are right, too
 
     module _ (r : Ranges S e second hidden) where
-      abbrev front : List ℕ
-      front = frontOf (aesScheme S) publicKey
-
       ranges-right : answer ≡ checkKey (aesScheme S) publicKey key Accepted
       unfolding require
       ranges-right = lengths-right ∙ simp (lt-ltb _ _ (r .execution), lt-ltb _ _ (r .hidden-shown), le-leb _ _ least)
@@ -139,23 +132,10 @@ module _ {S : Shape} (v : Valid S) (key publicKey salt root first : List ℕ) (e
           least : S .m2 ≤ second
           least = omega (arith, r .second-least, v .twenty)
 
-      -- n is the lowest S-box with a zero input
-      module _ {n : ℕ} (found : n ≡ zeroInput (aesScheme S) front key) where
-        pub zero-refused : n < 200 → Called (ZeroInput n) output work
-        unfolding checkKey checkInputs require outputAfter workAfter
-        zero-refused z =
-            called (ranges-right ∙ simp (← found, ne-eqb n (S .m1 * S .m2) (λ h. omega (arith, h, z, all-sboxes v)))) refl refl
+      module _ {a : Answer} (tested : a ≡ checkKey (aesScheme S) publicKey key Accepted) where
+        pub refused : Refusal a → Called a output work
+        refused h = let kept = refusal-untouched (aesScheme S) publicKey key tested h in called (ranges-right ∙ sym tested) (kept .output-kept) (kept .work-kept)
 
-        module _ (none : n ≡ 200) where
-          inputs-right : answer ≡ require (same (aesScheme S .circuit .encrypt front key) (ciphertextOf (aesScheme S) publicKey)) WrongKey Accepted
-          unfolding checkKey checkInputs require
-          inputs-right = ranges-right ∙ simp (← found, eq-eqb n (S .m1 * S .m2) (none ∙ sym (all-sboxes v)))
-
-          pub wrong-refused : same (aesScheme S .circuit .encrypt front key) (ciphertextOf (aesScheme S) publicKey) ≡ false → Called WrongKey output work
-          unfolding require outputAfter workAfter
-          wrong-refused h = called (inputs-right ∙ simp h) refl refl
-
-          pub accepted : same (aesScheme S .circuit .encrypt front key) (ciphertextOf (aesScheme S) publicKey) ≡ true → {o′ w′ : List ℕ}
-              → o′ ≡ outputAfter Accepted made output → w′ ≡ cleared work → Called Accepted o′ w′
-          unfolding require workAfter
-          accepted h p q = called (inputs-right ∙ simp h) p q
+        pub accepted : a ≡ Accepted → {o′ w′ : List ℕ} → o′ ≡ outputAfter Accepted made output → w′ ≡ cleared work → Called Accepted o′ w′
+        unfolding workAfter
+        accepted h p q = called (ranges-right ∙ sym tested ∙ h) p q

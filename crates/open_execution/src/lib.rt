@@ -10,7 +10,7 @@ ghost use Rattle.banquet.specs.Calls.{openExecution};
 ghost use Rattle.sets.specs.Valid.{Valid};
 ghost use Rattle.make_opening.specs.Steps.{Lengths, Ranges};
 
-// The call where lengths and numbers are right: 11 and 12, and else the opening. The key schedule's inputs are tested with the rounds'.
+// The call where lengths and numbers are right: 11 and 12, and else the opening.
 fn open_key(
     shape: Shape,
     key: &[u8],
@@ -37,13 +37,10 @@ fn open_key(
         e second hidden (now (out .entry)) (now (work .entry)) .work ⌝ }
 {
     let mut inputs = [0u8; 200];
-    let ciphertext = cipher::encrypt(key, &public[0..16], &mut inputs);
-    let zero = sbox_inputs::first_zero(&inputs[0..200]);
-    if zero < 200 {
-        return Answer::ZeroInput(zero as u8);
-    }
-    if !slices::equal(&ciphertext, &public[16..32]) {
-        return Answer::WrongKey;
+    let answer = check_key::check_key(shape, key, public, &mut inputs);
+    match answer {
+        Answer::Accepted => {}
+        _ => return answer,
     }
     let mut inverses = inputs;
     sbox_inputs::invert(&mut inverses);

@@ -2,41 +2,25 @@
 use mathlib.Core.Path.{_≡_, refl, sym, ap, ap₂, _∙_}
 use mathlib.Core.Logic.{_≢_}
 use mathlib.Core.List.{List, _++_, append-nil, append-assoc}
-use Prim.Native.Nat.{ℕ, zero, suc, _+_, _-_, _*_, _<_, _≤_}
+use Prim.Native.Nat.{ℕ, _+_, _-_, _*_, _<_, _≤_}
 use native.Mathlib.Omega.{arith}
 use lib.Bits.{bitXor}
 use lib.ListN.{length, getD, take, drop, length-take, length-drop, drop-of-length-le}
 use lib.Seq.{length-take-le}
 use borrow.Rule.Slice.PartMut.{putMid}
-use Rattle.slices.specs.Lists.{tab, zipXor, put}
+use Rattle.slices.specs.Lists.{tab, put}
 use Rattle.slices.specs.Tab.{getD-tab, rows-cong}
 use Rattle.slices.specs.Numbers.{bytesOf, numberAt, numbers}
 use Rattle.slices.proofs.Put.{put-mid, length-put, put-pair, wrote-none, wrote-more, wrote-all}
-use Rattle.poly.specs.Index.{at, at-same, at-other, at-cases}
+use Rattle.poly.specs.Index.{at-same, at-other}
 use Rattle.lagrange.specs.Values.{dotProduct}
-use Rattle.circuit.specs.Circuit.{share, party, inputShares as inputsOf, outputShare as outputOf}
+use Rattle.circuit.specs.Circuit.{share, party}
 use Rattle.banquet.specs.declared.Shape.{Shape}
 use Rattle.banquet.specs.Sets.{aesScheme}
-use Rattle.banquet.specs.Execution.{Committed, tapePart, keyShare, inverseShares, inputShares, outputShare}
+use Rattle.banquet.specs.Execution.{Committed, tapePart, inverseShares, inputShares, outputShare}
 use Rattle.sets.specs.Valid.{Valid}
 use Rattle.forms.specs.Point.{tabledRow, valueS, valueT}
 use Rattle.forms.specs.Party.{committed, own, ownProducts, workedC, workedA, workedB, workedRow}
-
--- ---- a party's own shares
-
-module _ {i : ℕ} {share : List ℕ} (offset : List ℕ) {y : List ℕ} (copied : y ≡ share) where
-  pub own-first : {z : List ℕ} → i ≡ 0 → z ≡ zipXor y offset → z ≡ own i share offset
-  own-first e h = h ∙ ap (λ s. zipXor s offset) copied ∙ sym (at-same i 0 (zipXor share offset) share e)
-
-  pub own-other : i ≢ 0 → y ≡ own i share offset
-  own-other n = copied ∙ sym (at-other i 0 (zipXor share offset) share n)
-
-pub one-small : (i : ℕ) {r : ℕ} → r ≡ at i 0 1 0 → r < 2
-one-small i e = rw e (at-cases (λ r. r < 2) i 0 1 0 (λ _. omega arith) (λ _. omega arith))
-
-party-is : (i : ℕ) (k y : List ℕ) → share (at i 0 1 0) k y ≡ party i k y
-party-is zero k y = ap (λ o. share o k y) (at-same 0 0 1 0 refl)
-party-is (suc i) k y = ap (λ o. share o k y) (at-other (suc i) 0 1 0 (λ e. omega arith))
 
 -- ---- a front that is lent as `&mut d[0..a]`
 
@@ -56,9 +40,6 @@ module _ {S : Shape} (v : Valid S) where
 
   -- ---- numbers that are loaded and stored
 
-  pub load-fits : (k : ℕ) {n m : ℕ} → n ≡ k → k * wide ≤ m → (wide ≤ 8) × (n * wide ≤ m)
-  load-fits k e h = (omega (arith, v .wide-most), rw e h)
-
   pub store-fits : {n m : ℕ} → m ≡ 10 * wide → n ≡ 10 → (wide ≤ 8) × (m ≡ n * wide)
   store-fits h e = (omega (arith, v .wide-most), rw e h)
 
@@ -71,26 +52,6 @@ module _ {S : Shape} (v : Valid S) where
       (λ j l. ap (bytesOf wide)
       (getD-tab (λ j. f j (getD rows j 0)) 10 j 0 l ∙ ap (λ s. f j (getD s j 0)) e ∙ ap (f j) (getD-tab g 10 j 0 l)))
       ∙ ap (λ n. numbers wide n (λ j. f j (g j))) (sym (v .ten))
-
-  -- ---- the output and the circuit
-
-  module _ (front key inverse t : List ℕ) (i : ℕ) {one : ℕ} {p q mine inv : List ℕ} (o : one ≡ at i 0 1 0)
-      (e : p ≡ tapePart (aesScheme S) 0 t) (f : mine ≡ own i p key) (e′ : q ≡ tapePart (aesScheme S) 1 t) (f′ : inv ≡ own i q inverse) where
-    abbrev x : Committed
-    x = committed front key inverse
-
-    inverses-are : inv ≡ inverseShares (aesScheme S) x i t
-    inverses-are = f′ ∙ ap (λ s. own i s inverse) e′
-
-    whole : share one mine inv ≡ party i (keyShare (aesScheme S) x i t) (inverseShares (aesScheme S) x i t)
-    whole =
-        ap (λ n. share n mine inv) o ∙ ap₂ (share (at i 0 1 0)) (f ∙ ap (λ s. own i s key) e) inverses-are
-        ∙ party-is i (keyShare (aesScheme S) x i t) (inverseShares (aesScheme S) x i t)
-
-    pub walked : {r inputs : List ℕ} → r ≡ outputOf (share one mine inv) → inputs ≡ inputsOf front (share one mine inv)
-        → (r ≡ outputShare (aesScheme S) x i t) × ((inv ≡ inverseShares (aesScheme S) x i t) × (inputs ≡ inputShares (aesScheme S) x i t))
-    unfolding outputShare inputShares
-    walked h k = (h ∙ ap outputOf whole, (inverses-are, k ∙ ap (inputsOf front) whole))
 
   -- ---- the share of c
 

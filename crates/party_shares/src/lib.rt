@@ -6,60 +6,13 @@ ghost use mathlib.Core.List.{_++_};
 ghost use lib.ListN.{length, getD};
 ghost use Rattle.slices.specs.Layout.{total};
 ghost use Rattle.slices.specs.Numbers.{numbers};
-ghost use Rattle.poly.specs.Index.{at};
 ghost use Rattle.banquet.specs.Shape.{tapeSizes, productPoints};
 ghost use Rattle.banquet.specs.Sets.{aesScheme};
-ghost use Rattle.banquet.specs.Execution.{inverseShares, inputShares, outputShare};
 ghost use Rattle.sets.specs.Valid.{Valid};
 ghost use Rattle.sets.specs.Bounds.{rowSizes};
 ghost use Rattle.forms.specs.Point.{tabledRow, valueS, valueT};
-ghost use Rattle.forms.specs.Party.{committed, own as ownShare, ownProducts, workedC, workedA, workedB, workedRow};
+ghost use Rattle.forms.specs.Party.{committed, ownProducts, workedC, workedA, workedB, workedRow};
 ghost use Rattle.party_shares.specs.Given.{Lengths};
-
-// A party's own share: "Party 0 alone adds offsets".
-fn own(i: usize, share: &[u8], offset: &[u8], out: &mut [u8])
-    requires { ⌜ (length (now share) ≡ length (now out)) × (length (now offset) ≡ length (now out)) ⌝ }
-    ensures { λ _. ⌜ now (out .exit) ≡ ownShare i (now (share .entry)) (now (offset .entry)) ⌝ }
-{
-    slices::copy(out, share);
-    if i != 0 {
-        return;
-    }
-    slices::xor_into(out, offset);
-}
-
-// Party i's share of the number 1.
-fn one(i: usize) -> u8
-    ensures { λ r. ⌜ r ≡ at i 0 1 0 ⌝ }
-{
-    if i == 0 { 1 } else { 0 }
-}
-
-// The output's share, and the shares of the inverses and of the S-boxes' inputs.
-fn walk(
-    shape: Shape,
-    i: usize,
-    front: &[u8],
-    key: &[u8],
-    inverse: &[u8],
-    tape: &[u8],
-    inverses: &mut [u8],
-    inputs: &mut [u8],
-) -> [u8; 16]
-    requires { ⌜ Valid shape × (length (now front) ≡ 16) × (length (now key) ≡ 16) × (length (now inverse) ≡ 200)
-        × (length (now tape) ≡ total (tapeSizes shape)) × (length (now inverses) ≡ 200) × (length (now inputs) ≡ 200) ⌝ }
-    ensures { λ r. ⌜ r
-        ≡ outputShare (aesScheme shape) (committed (now (front .entry)) (now (key .entry)) (now (inverse .entry))) i (now (tape .entry)) ⌝ }
-    ensures { λ _. ⌜ now (inverses .exit)
-        ≡ inverseShares (aesScheme shape) (committed (now (front .entry)) (now (key .entry)) (now (inverse .entry))) i (now (tape .entry)) ⌝ }
-    ensures { λ _. ⌜ now (inputs .exit)
-        ≡ inputShares (aesScheme shape) (committed (now (front .entry)) (now (key .entry)) (now (inverse .entry))) i (now (tape .entry)) ⌝ }
-{
-    let mut share = [0u8; 16];
-    own(i, tapes::tape_part(shape, 0, tape), key, &mut share);
-    own(i, tapes::tape_part(shape, 1, tape), inverse, inverses);
-    shares::aes_circuit(one(i), &share, front, inverses, inputs)
-}
 
 // P's shares at the points 20 to 40.
 fn products(
@@ -74,7 +27,7 @@ fn products(
         × (length (now scratch) ≡ productPoints shape * shape .wide) × (length (now out) ≡ 21) ⌝ }
     ensures { λ _. ⌜ now (out .exit) ≡ ownProducts shape (now (product .entry)) i (now (tape .entry)) ⌝ }
 {
-    own(i, tapes::tape_part(shape, 3, tape), product, scratch);
+    circuit_shares::own(i, tapes::tape_part(shape, 3, tape), product, scratch);
     elements::load(shape.wide, scratch, out);
 }
 
@@ -192,7 +145,7 @@ pub fn party_row(
 {
     let mut inverses = [0u8; 200];
     let mut inputs = [0u8; 200];
-    let output = walk(
+    let output = circuit_shares::walk(
         shape,
         i,
         front,

@@ -1,5 +1,5 @@
--- The work slice's front: lent it leaves the rest alone, and zeros are written over it. The count of zeros stays a variable here, so that nothing
--- writes them out. Assumes nothing.
+-- The front of the work slice, which lent leaves the rest alone, and over which zeros are written; and the front of the output. The count of zeros
+-- stays a variable here, so that nothing writes them out. Assumes nothing.
 use mathlib.Core.Path.{_≡_, ap, _∙_}
 use mathlib.Core.List.{List, _++_}
 use Prim.Native.Nat.{ℕ, _+_, _-_, _≤_}
@@ -8,15 +8,13 @@ use native.Mathlib.Omega.{arith}
 use lib.ListN.{length, take, drop, replicate}
 use lib.Seq.{length-take-le, drop-append-add, drop-drop}
 use borrow.Rule.Slice.PartMut.{putMid, same-len-mid}
+use Rattle.slices.proofs.Put.{front-long}
 use Rattle.banquet.specs.Shape.{workLength}
-use Rattle.banquet.specs.Answer.{cleared}
+use Rattle.banquet.specs.declared.Answer.the-variants.{Accepted}
+use Rattle.banquet.specs.Answer.{cleared, outputAfter}
 use Rattle.scratch.specs.Scratch.{Scratch}
 
--- a front of k elements that is lent as `&mut w[0..k]`
-pub front-long : (k : ℕ) (w : List ℕ) → k ≤ length w → length (take (k - 0) w) ≡ k
-front-long k w h = rw sub-zero (length-take-le k w h)
-
--- what stands behind it is there still
+-- what stands behind a front of k elements that is lent is there still
 behind : (n k : ℕ) (w y : List ℕ) → k ≤ n → length y ≡ k → drop n (y ++ drop k w) ≡ drop n w
 behind n k w y l h =
     let e : n ≡ length y + (n - k) = omega arith in
@@ -36,3 +34,9 @@ zeros n w z e h = rw (e, length-take-le n w h)
 pub front-cleared : (w : List ℕ) {z : List ℕ} → z ≡ replicate (length (take workLength w)) 0 → workLength ≤ length w → putMid 0 workLength w z ≡ cleared w
 unfolding cleared
 front-cleared w {z} e h = zeros workLength w z e h
+
+-- ---- the output's front, which is lent and comes back
+
+pub front-output : (n : ℕ) (d : List ℕ) {y s : List ℕ} → y ≡ s → length y ≡ n → putMid 0 (n - 0) d y ≡ outputAfter Accepted s d
+unfolding outputAfter
+front-output n d {y} {s} e h = let z : n - 0 ≡ length s = omega (arith, h, ap length e) in rw (z, e)

@@ -3,7 +3,7 @@ use banquet::Answer;
 use banquet::Shape;
 ghost use mathlib.Core.Path.{_≡_};
 ghost use Rattle.banquet.specs.Sets.{baseScheme};
-ghost use Rattle.banquet.specs.Calls.{verify as verifyOf};
+ghost use Rattle.banquet.specs.Calls.{sign as signOf, verify as verifyOf};
 
 // "with 16 parties, 41 executions, lift factor 4, m1 = 10 and m2 = 20"
 const BASE: Shape = Shape {
@@ -26,4 +26,29 @@ pub fn verify(public: &[u8], message: &[u8], signature: &[u8], work: &mut [u8]) 
 {
     let shape = BASE;
     check_signature::check(shape, public, message, signature, work)
+}
+
+// A message is signed. On success the signature is the output's first 19,776 bytes and the work slice's first 65,536 bytes are zero; a refusal leaves
+// both untouched.
+pub fn sign(
+    key: &[u8],
+    public: &[u8],
+    message: &[u8],
+    salt: &[u8],
+    seeds: &[u8],
+    out: &mut [u8],
+    work: &mut [u8],
+) -> Answer
+    ensures { λ r. ⌜ r
+        ≡ signOf baseScheme (now (key .entry)) (now (public .entry)) (now (message .entry)) (now (salt .entry)) (now (seeds .entry))
+        (now (out .entry)) (now (work .entry)) .answer ⌝ }
+    ensures { λ _. ⌜ now (out .exit)
+        ≡ signOf baseScheme (now (key .entry)) (now (public .entry)) (now (message .entry)) (now (salt .entry)) (now (seeds .entry))
+        (now (out .entry)) (now (work .entry)) .output ⌝ }
+    ensures { λ _. ⌜ now (work .exit)
+        ≡ signOf baseScheme (now (key .entry)) (now (public .entry)) (now (message .entry)) (now (salt .entry)) (now (seeds .entry))
+        (now (out .entry)) (now (work .entry)) .work ⌝ }
+{
+    let shape = BASE;
+    sign_message::sign_message(shape, key, public, message, salt, seeds, out, work)
 }

@@ -11,7 +11,7 @@ ghost use Rattle.banquet.specs.Hash.{tape};
 ghost use Rattle.banquet.specs.Execution.{tapePart};
 ghost use Rattle.sets.specs.Valid.{Valid};
 ghost use Rattle.forms.specs.Offsets.{workedOffsets};
-ghost use Rattle.signer.specs.Given.{Rows};
+ghost use Rattle.product_offsets.specs.Given.{Rows};
 
 // "An offset is the true value plus the sum of tape shares."
 fn offset_of(value: &[u8], shares: &[u8], out: &mut [u8])
@@ -38,32 +38,6 @@ fn byte_offsets(
 {
     offset_of(key, tapes::tape_part(shape, 0, sum), offset);
     offset_of(inverses, tapes::tape_part(shape, 1, sum), inverse);
-}
-
-// The product offsets, from the rows and Lagrange's values at the points 20 to 40.
-fn wide_offsets(
-    shape: Shape,
-    us: &[u64],
-    vs: &[u64],
-    lasts: &[u64],
-    sum: &[u8],
-    first: &[u8],
-    out: &mut [u8],
-)
-    requires { ⌜ Rows shape (now us) (now vs) (now lasts) × (length (now sum) ≡ total (tapeSizes shape))
-        × (length (now first) ≡ firstChallengeLength shape) × (length (now out) ≡ productPoints shape * shape .wide) ⌝ }
-    ensures { λ _. ⌜ now (out .exit)
-        ≡ workedOffsets shape (now (us .entry)) (now (vs .entry)) (now (lasts .entry)) (now (sum .entry)) (now (first .entry)) ⌝ }
-{
-    let mut draws = [0u64; 10];
-    elements::load(shape.wide, first, &mut draws);
-    let mut extra = [0u64; 20];
-    elements::load(shape.wide, tapes::tape_part(shape, 2, sum), &mut extra);
-    let mut shares = [0u64; 21];
-    elements::load(shape.wide, tapes::tape_part(shape, 3, sum), &mut shares);
-    let mut values = [0u64; 21];
-    offsets::products(shape, &draws, &extra, &shares, us, vs, lasts, &mut values);
-    elements::store(shape.wide, &values, out);
 }
 
 // All offsets, with scratch for the sum of the tapes.
@@ -99,7 +73,7 @@ fn offsets_under(
 {
     hash_sums::hash_sum(4, salt, e, shape.parties, seeds, sum);
     byte_offsets(shape, key, inverses, sum, offset, inverse);
-    wide_offsets(shape, us, vs, lasts, sum, first, product);
+    product_offsets::product_offsets(shape, us, vs, lasts, sum, first, product);
 }
 
 // All offsets of an execution.

@@ -2,7 +2,7 @@
 use mathlib.Core.Path.{_≡_, refl, sym, ap, _∙_}
 use mathlib.Core.List.{List, [], _∷_, _++_, append-assoc, append-nil}
 use Prim.Native.Nat.{ℕ, suc, _+_, _-_, _<_, _≤_}
-use native.Mathlib.Nat.{add-zero}
+use native.Mathlib.Nat.{add-zero, sub-zero}
 use native.Mathlib.Omega.{arith}
 use lib.ListN.{length, getD, set, take, drop, length-append, length-drop, take-append-drop, drop-of-length-le}
 use lib.Seq.{drop-cons, set-at, drop-drop, drop-at, take-at, drop-append-add, length-take-le}
@@ -93,3 +93,17 @@ pub put-two : (a : ℕ) (d : List ℕ) {y y′ z z′ : List ℕ} → y ≡ y′
     → putMid a (length (putMid 0 a d y) - a) (putMid 0 a d y) z ≡ y′ ++ z′
 put-two a d {y} {y′} e h f =
     put-pair a (length (putMid 0 a d y) - a) d e h f (rw e (omega (arith, length-append y′ (drop a d), length-drop a d)))
+
+-- ---- parts that are lent or read: `d[0..n]`, `s[a..b]`
+
+pub front-long : (n : ℕ) (d : List ℕ) → n ≤ length d → length (take (n - 0) d) ≡ n
+front-long n d h = rw sub-zero (length-take-le n d h)
+
+-- a front that came back as y, read once more
+pub front-again : (n : ℕ) (d : List ℕ) {y : List ℕ} → length y ≡ n → take (n - 0) (putMid 0 (n - 0) d y) ≡ y
+front-again n d {y} h = rw sub-zero (take-at y (drop n d) n h)
+
+pub cut-long : (a b : ℕ) {n : ℕ} (s : List ℕ) → a + n ≡ b → b ≤ length s → length (take (b - a) (drop a s)) ≡ n
+cut-long a b {n} s e h =
+    let size : b - a ≡ n = omega arith in
+    rw size (length-take-le n (drop a s) (omega (arith, length-drop a s)))

@@ -1,7 +1,7 @@
 -- The parts of a tape: what they are, and how long. Assumes nothing.
 use mathlib.Core.Path.{_≡_, ap, _∙_}
 use mathlib.Core.List.{List}
-use Prim.Native.Nat.{ℕ, _^_, _<_, _≤_}
+use Prim.Native.Nat.{ℕ, _*_, _^_, _<_, _≤_}
 use native.Mathlib.Omega.{arith}
 use lib.ListN.{length, getD}
 use Rattle.slices.specs.Layout.{field, total, length-field}
@@ -25,3 +25,7 @@ module _ {S : Shape} (v : Valid S) where
       → length r ≡ getD (tapeSizes S) k 0
   unfolding tapePart
   part-long k t l h = ap length h ∙ length-field (tapeSizes S) k t l
+
+  -- numbers of a part that are loaded
+  pub load-fits : (k : ℕ) {n m : ℕ} → n ≡ k → k * S .wide ≤ m → (S .wide ≤ 8) × (n * S .wide ≤ m)
+  load-fits k e h = (omega (arith, v .wide-most), rw e h)

@@ -1,12 +1,14 @@
 -- The checks of document 01's own set, with its figures: an opening and a signature are accepted exactly where every check holds. Assumes nothing.
-use mathlib.Core.Path.{_≡_}
+use mathlib.Core.Path.{_≡_, ap}
 use mathlib.Core.Logic.{_≢_}
 use mathlib.Core.List.{List}
 use Prim.Native.Nat.{ℕ, _≤_, _<_}
 use lib.ListN.{length, drop}
+use borrow.Author.Tests.{eq-eqb, ne-eqb, le-leb}
 use Rattle.slices.specs.Lists.{sumXor}
 use Rattle.field.specs.Wide32.{mul32}
-use Rattle.banquet.specs.declared.Answer.the-variants.{Accepted}
+use Rattle.banquet.specs.declared.Answer.the-variants.{Accepted, FileLength}
+use Rattle.banquet.specs.Answer.{require, workAfter}
 use Rattle.banquet.specs.Hash.{commitment}
 use Rattle.banquet.specs.Execution.{Committed, Challenge, outputShare, openedC, openedA, openedB}
 use Rattle.banquet.specs.Opening.{
@@ -23,7 +25,7 @@ use Rattle.banquet.specs.Opening.{
   tapeUnder,
 }
 use Rattle.banquet.specs.Signature.{headPart, frameOf, frameC, frameA, frameB, recomputedH1, recomputedH3}
-use Rattle.banquet.specs.Calls.{verify, verifyOpening}
+use Rattle.banquet.specs.Calls.{verifyAnswer, verify, verifyOpening}
 use Rattle.banquet.specs.Sets.{baseScheme}
 use Rattle.theorems.specs.Base.{sum32, before, hidden, shown}
 use Rattle.banquet.specs.OpeningChecks as openings
@@ -157,3 +159,11 @@ module _ (publicKey message s work : List ℕ) where
         work-size = h .work-length;
         frames-hold = record { product = h .product; first = h .first-hash; third = h .third-hash };
       })
+
+  -- "a seal .. to be checked hasn't exactly its length": one that was cut short or lengthened is refused as 6, whatever its bytes are.
+  pub length-refused : length publicKey ≡ 32 → length message ≤ 32768 → length s ≢ 19776
+      → (verify baseScheme publicKey message s work .answer ≡ FileLength) × (verify baseScheme publicKey message s work .work ≡ work)
+  unfolding verifyAnswer require workAfter
+  length-refused p m n =
+      let is : verifyAnswer baseScheme publicKey message s work ≡ FileLength = simp (eq-eqb _ _ p, le-leb _ _ m, ne-eqb _ _ n) in
+      (is, ap (λ a. workAfter a work) is)

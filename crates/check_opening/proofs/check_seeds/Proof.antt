@@ -6,9 +6,10 @@ use native.Mathlib.Omega.{arith}
 use lib.ListN.{length}
 use borrow.Author.Needs.{needs}
 use borrow.Rule.Slice.PartMut.{putMid}
+use Rattle.slices.proofs.Put.{front-long}
 use Rattle.check_opening.proofs.Seeds.{rows-fit, commitment-refused, commitments-passed}
 use Rattle.scratch.specs.Scratch.{Scratch, scratch-then}
-use Rattle.scratch.proofs.Laws.{front-long, scratch-front}
+use Rattle.scratch.proofs.Laws.{scratch-front}
 use Rattle.check_opening.proofs.check_seeds.Statement.{statement}
 use Rattle.check_opening.proofs.check_seeds.Tie as tie
 

@@ -1,5 +1,5 @@
 -- `check_signature::absorb_drawn` meets its contract: the challenges are those of h1, h2 and h3. Assumes nothing.
-use mathlib.Core.Path.{_≡_, ap, ap₂, _∙_}
+use mathlib.Core.Path.{ap, ap₂, _∙_}
 use mathlib.Core.List.{List, _∷_}
 use Prim.Native.Nat.{ℕ}
 use lib.ListN.{length}

@@ -1,8 +1,7 @@
 -- `check_signature::absorb_execution` meets its contract: the execution's challenges are taken from those drawn for all. Assumes nothing.
-use mathlib.Core.Path.{_≡_, ap, _∙_}
-use Prim.Native.Nat.{_+_, _*_, _<_, _≤_}
+use mathlib.Core.Path.{ap, _∙_}
+use Prim.Native.Nat.{_*_}
 use native.Mathlib.Omega.{arith}
-use lib.ListN.{length}
 use borrow.Author.Needs.{needs}
 use Rattle.slices.proofs.Rows.{row-cut}
 use Rattle.stream.specs.Stream.{absorbed}

@@ -6,10 +6,10 @@ use lib.ListN.{length}
 use borrow.Author.Needs.{needs}
 use Rattle.slices.specs.Lists.{rows as rowsOf}
 use Rattle.slices.specs.Layout.{total}
+use Rattle.absorb_rows.proofs.Laws.{part-more}
 use Rattle.stream.specs.Stream.{absorbed}
 use Rattle.sets.specs.Bounds.{rowSizes}
 use Rattle.check_signature.specs.Steps.{firstPart, thirdPart}
-use Rattle.check_signature.proofs.Execution.{part-more}
 use Rattle.check_signature.proofs.absorb_executions.Statement.{statement}
 use Rattle.check_signature.proofs.absorb_executions.Tie as tie
 

@@ -1,5 +1,5 @@
 -- `check_signature::check` refuses by length, in the call's order, and else checks the signature. Assumes nothing.
-use mathlib.Core.Path.{_≡_, sym, _∙_}
+use mathlib.Core.Path.{sym, _∙_}
 use native.Mathlib.Omega.{arith}
 use borrow.Author.Needs.{needs}
 use Rattle.slices.specs.Bytes.{bytes-of}

@@ -1,5 +1,5 @@
 -- `check_signature::check_hashes` meets its contract: what is absorbed is what h1 and h3 bind. Assumes nothing.
-use mathlib.Core.Path.{_≡_, ap, _∙_}
+use mathlib.Core.Path.{ap, _∙_}
 use native.Mathlib.Omega.{arith}
 use lib.ListN.{length}
 use borrow.Author.Needs.{needs}

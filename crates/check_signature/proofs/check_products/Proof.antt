@@ -3,13 +3,14 @@ use mathlib.Core.Path.{_≡_, refl, sym, ap, _∙_}
 use mathlib.Core.List.{List}
 use Prim.Native.Nat.{ℕ, _*_, _≤_}
 use native.Mathlib.Omega.{arith}
-use lib.ListN.{length, replicate}
+use lib.ListN.{replicate}
 use borrow.Author.Needs.{needs}
 use Rattle.slices.specs.Layout.{total}
+use Rattle.slices.proofs.Put.{front-long}
 use Rattle.banquet.specs.declared.Shape.{Shape}
 use Rattle.sets.specs.Valid.{Valid}
 use Rattle.sets.specs.Bounds.{rowSizes, rows-most}
-use Rattle.scratch.proofs.Laws.{front-long, scratch-front}
+use Rattle.scratch.proofs.Laws.{scratch-front}
 use Rattle.banquet.specs.Sets.{aesScheme}
 use Rattle.banquet.specs.Signature.{headPart, frameOf}
 use Rattle.verify_answers.specs.Answers.{product-refused, products-hold}

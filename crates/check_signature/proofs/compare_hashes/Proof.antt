@@ -1,12 +1,10 @@
 -- `check_signature::compare_hashes` meets its contract. Assumes nothing.
-use mathlib.Core.Path.{_≡_, _∙_}
+use mathlib.Core.Path.{_∙_}
 use Prim.Native.Nat.{_-_}
 use lib.ListN.{take, drop}
 use borrow.Author.Needs.{needs}
 use Rattle.stream.specs.Stream.{finished, squeezed}
-use Rattle.slices.specs.Lists.{same}
 use Rattle.banquet.specs.declared.Answer.the-variants.{Accepted, FirstHashDiffers, ThirdHashDiffers}
-use Rattle.banquet.specs.Answer.{require}
 use Rattle.check_signature.proofs.Hashes.{refused, passed}
 use Rattle.check_signature.proofs.compare_hashes.Statement.{statement}
 use Rattle.check_signature.proofs.compare_hashes.Tie as tie

@@ -1,12 +1,11 @@
 -- `check_signature::recomputed` meets its contract: there is room for what is drawn. Assumes nothing.
-use mathlib.Core.Path.{_≡_, _∙_}
 use mathlib.Core.List.{List}
 use Prim.Native.Nat.{ℕ, _*_, _≤_}
 use native.Mathlib.Nat.{mul-le-mul}
 use native.Mathlib.Omega.{arith}
-use lib.ListN.{length, replicate}
+use lib.ListN.{replicate}
 use borrow.Author.Needs.{needs}
-use Rattle.scratch.proofs.Laws.{front-long}
+use Rattle.slices.proofs.Put.{front-long}
 use Rattle.banquet.specs.Shape.{firstChallengeLength}
 use Rattle.sets.specs.Bounds.{by-ten}
 use Rattle.check_signature.proofs.recomputed.Statement.{statement}

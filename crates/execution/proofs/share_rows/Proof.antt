@@ -6,7 +6,7 @@ use borrow.Author.Needs.{needs}
 use Rattle.slices.specs.Bytes.{bytes-of}
 use Rattle.sets.specs.Bounds.{by-ten}
 use Rattle.sets.specs.Laws.{wide-field}
-use Rattle.party_shares.proofs.Laws.{load-fits}
+use Rattle.tapes.proofs.Laws.{load-fits}
 use Rattle.execution.proofs.Right.{right, rows-right}
 use Rattle.execution.proofs.share_rows.Statement.{statement}
 use Rattle.execution.proofs.share_rows.Tie as tie

@@ -1,16 +1,16 @@
 -- `frame_hashes::absorb_first` meets its contract: the four pieces are absorbed one after the other. Assumes nothing.
 use mathlib.Core.Path.{_≡_, ap, _∙_}
-use mathlib.Core.List.{List}
 use Prim.Native.Nat.{ℕ}
 use native.Mathlib.Omega.{arith}
 use borrow.Author.Needs.{needs}
 use Rattle.slices.specs.Layout.{field}
+use Rattle.absorb_rows.proofs.Laws.{more}
 use Rattle.stream.specs.Stream.{absorbed}
 use Rattle.columns.specs.Column.{columnOf}
 use Rattle.banquet.specs.Sets.{aesScheme}
 use Rattle.banquet.specs.Signature.{framePart}
 use Rattle.frames.specs.Frames.{frame-fits}
-use Rattle.frame_hashes.proofs.Laws.{more, column-fits}
+use Rattle.frame_hashes.proofs.Laws.{column-fits}
 use Rattle.frame_hashes.proofs.absorb_first.Statement.{statement}
 use Rattle.frame_hashes.proofs.absorb_first.Tie as tie
 

@@ -1,13 +1,13 @@
 -- `frame_hashes::absorb_frame` meets its contract: what the rows give is what the hashes bind. Assumes nothing.
 use mathlib.Core.Path.{_≡_, ap, _∙_}
 use mathlib.Core.List.{List}
-use Prim.Native.Nat.{ℕ, _*_, _^_, _≤_}
+use Prim.Native.Nat.{ℕ, _*_, _≤_}
 use native.Mathlib.Omega.{arith}
 use lib.ListN.{length, replicate}
 use borrow.Author.Needs.{needs}
 use Rattle.slices.specs.Layout.{total}
+use Rattle.slices.proofs.Put.{front-long}
 use Rattle.stream.specs.Stream.{absorbed}
-use Rattle.scratch.proofs.Laws.{front-long}
 use Rattle.sets.specs.Bounds.{rowSizes, leaves-most}
 use Rattle.frame_hashes.specs.Frame.{seedShown}
 use Rattle.frame_hashes.proofs.Bound.{first-bound, third-bound}

@@ -4,12 +4,13 @@ use Prim.Native.Nat.{ℕ, _*_}
 use native.Mathlib.Omega.{arith}
 use borrow.Author.Needs.{needs}
 use Rattle.slices.specs.Layout.{field}
+use Rattle.absorb_rows.proofs.Laws.{more}
 use Rattle.stream.specs.Stream.{absorbed}
 use Rattle.columns.specs.Column.{columnOf}
 use Rattle.banquet.specs.Sets.{aesScheme}
 use Rattle.banquet.specs.Signature.{framePart}
 use Rattle.frames.specs.Frames.{frame-fits}
-use Rattle.frame_hashes.proofs.Laws.{more, column-fits}
+use Rattle.frame_hashes.proofs.Laws.{column-fits}
 use Rattle.frame_hashes.proofs.absorb_third.Statement.{statement}
 use Rattle.frame_hashes.proofs.absorb_third.Tie as tie
 

@@ -1,10 +1,9 @@
 -- `frame_hashes::shown_commitments` meets its contract: the hidden party's row is replaced. Assumes nothing.
-use mathlib.Core.Path.{_≡_, ap, _∙_}
+use mathlib.Core.Path.{ap, _∙_}
 use Prim.Native.Nat.{_*_}
 use borrow.Author.Needs.{needs}
 use Rattle.slices.specs.Lists.{row, put}
 use Rattle.complete.specs.Rows.{put-row}
-use Rattle.banquet.specs.Sets.{aesScheme}
 use Rattle.banquet.specs.Hash.{commitment}
 use Rattle.party.specs.Party.{partyHash}
 use Rattle.party.proofs.Laws.{length-hash}

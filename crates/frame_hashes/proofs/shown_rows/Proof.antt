@@ -7,9 +7,9 @@ use lib.ListN.{length, getD, replicate}
 use borrow.Author.Needs.{needs}
 use Rattle.slices.specs.Layout.{total, field}
 use Rattle.banquet.specs.Shape.{frameSizes}
-use Rattle.sets.specs.Bounds.{rowSizes, row-most, all-sboxes}
+use Rattle.sets.specs.Bounds.{row-most, all-sboxes}
 use Rattle.frames.specs.Frames.{frame-fits, frame-field-size}
-use Rattle.scratch.proofs.Laws.{front-long as front-part}
+use Rattle.slices.proofs.Put.{front-long as front-part}
 use Rattle.frame_hashes.proofs.Laws.{public-long, front-long, rows-completed}
 use Rattle.frame_hashes.proofs.shown_rows.Statement.{statement}
 use Rattle.frame_hashes.proofs.shown_rows.Tie as tie

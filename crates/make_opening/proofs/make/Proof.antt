@@ -2,12 +2,10 @@
 use mathlib.Core.Path.{sym, ap, subst, _∙_}
 use Prim.Native.Nat.{_*_, _≤_}
 use native.Mathlib.Omega.{arith}
-use lib.ListN.{length}
 use borrow.Author.Needs.{needs}
 use Rattle.sets.specs.Bounds.{leaves-most, rows-most}
-use Rattle.scratch.proofs.Laws.{scratch-front}
+use Rattle.scratch.proofs.Laws.{scratch-front, front-output}
 use Rattle.party_shares.proofs.Laws.{front-long}
-use Rattle.make_opening.proofs.Laws.{front-output}
 use Rattle.make_opening.proofs.make.Statement.{statement}
 use Rattle.make_opening.proofs.make.Tie as tie
 
@@ -50,7 +48,7 @@ returns c =
     let size = sized .opening-length in
     let m = done .make-rows in
     let long = m .kept .1 .1 .1 .1 .1 .1 .1 .1 .1 .1 .1 .1 .1 .0 ∙ front-long d (size .ensures) (omega (arith, size .ensures, p .3)) in (
-      front-output (size .result) d (m .ensures) (ap length (sym (m .ensures)) ∙ long ∙ sym (size .ensures)),
+      front-output (size .result) d (m .ensures) (long ∙ sym (size .ensures)),
       scratch-front (s .args .shape .parties * rowed .row-length .result) (s .args .work .now) (m .last .1 .1 .1 .1 .1 .1 .1 .1 .1 .1 .1 .1 .0)
           (omega (arith, room)) (p .4) (m .kept .1 .1 .1 .1 .1 .1 .1 .1 .1 .1 .1 .1 .0),
     )

@@ -7,8 +7,8 @@ use borrow.Author.Needs.{needs}
 use borrow.Rule.Slice.PartMut.{same-len-mid}
 use Rattle.slices.specs.Numbers.{length-numbers}
 use Rattle.sets.specs.Bounds.{by-ten}
-use Rattle.tapes.proofs.Laws.{part-long}
-use Rattle.party_shares.proofs.Laws.{load-fits, front-long, rest-long, put-both, a-worked, b-worked}
+use Rattle.tapes.proofs.Laws.{part-long, load-fits}
+use Rattle.party_shares.proofs.Laws.{front-long, rest-long, put-both, a-worked, b-worked}
 use Rattle.party_shares.proofs.opened_row.Statement.{statement}
 use Rattle.party_shares.proofs.opened_row.Tie as tie
 

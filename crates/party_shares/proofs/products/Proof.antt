@@ -3,8 +3,8 @@ use mathlib.Core.Path.{sym, _∙_}
 use native.Mathlib.Omega.{arith}
 use borrow.Author.Needs.{needs}
 use Rattle.sets.specs.Bounds.{by-points}
-use Rattle.tapes.proofs.Laws.{part-long}
-use Rattle.party_shares.proofs.Laws.{load-fits, products-are}
+use Rattle.tapes.proofs.Laws.{part-long, load-fits}
+use Rattle.party_shares.proofs.Laws.{products-are}
 use Rattle.party_shares.proofs.products.Statement.{statement}
 use Rattle.party_shares.proofs.products.Tie as tie
 

@@ -23,16 +23,16 @@ byte-offsets-requires c κs =
     let s = at-hash-sum .before .before .before .before .before .before .before .before .before .before .before .before .before .before in
     let p = s .pre in (p .0 .valid, p .3, p .4, at-hash-sum .hash-sum .kept .1 .1 .1 .1 .1 .0 ∙ p .6, p .7, p .8)
 
-wide-offsets-requires : tie.Need-wide-offsets-requires
-wide-offsets-requires c κs =
+product-offsets-requires : tie.Need-product-offsets-requires
+product-offsets-requires c κs =
     let at-hash-sum = c .before .before .before .before .before .before .before .before .before .before .before .before in
     let s = at-hash-sum .before .before .before .before .before .before .before .before .before .before .before .before .before .before in
     let p = s .pre in (p .0, at-hash-sum .hash-sum .kept .1 .1 .1 .1 .1 .0 ∙ p .6, p .5, p .9)
 
 returns : tie.Need-returns
 returns c =
-    let at-wide-offsets = c .before .before in
-    let at-byte-offsets = at-wide-offsets .before .before .before .before .before .before .before in
+    let at-product-offsets = c .before .before in
+    let at-byte-offsets = at-product-offsets .before .before .before .before .before .before .before in
     let at-hash-sum = at-byte-offsets .before .before .before .before .before .before in
     let s = at-hash-sum .before .before .before .before .before .before .before .before .before .before .before .before .before .before in
     let a = s .args in
@@ -40,7 +40,7 @@ returns c =
       at-byte-offsets .byte-offsets .ensures .0 ∙ ap (λ t. zipXor (a .key .now) (tapePart (aesScheme (a .shape)) 0 t)) sum,
       (
         at-byte-offsets .byte-offsets .ensures .1 ∙ ap (λ t. zipXor (a .inverses .now) (tapePart (aesScheme (a .shape)) 1 t)) sum,
-        at-wide-offsets .wide-offsets .ensures
+        at-product-offsets .product-offsets .ensures
             ∙ ap (λ t. workedOffsets (a .shape) (a .us .now) (a .vs .now) (a .lasts .now) t (a .first .now)) sum,
       ),
     )
@@ -48,5 +48,5 @@ returns c =
 pub offsets-under-spec : {M : Type 1} → statement M
 offsets-under-spec =
     tie.close
-    (tie.spec hash-sum-requires byte-offsets-requires wide-offsets-requires (λ c. search needs) (λ c. search needs) (λ c. search needs)
+    (tie.spec hash-sum-requires byte-offsets-requires product-offsets-requires (λ c. search needs) (λ c. search needs) (λ c. search needs)
     (λ c. search needs) returns)

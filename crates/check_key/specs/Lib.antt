@@ -1,0 +1,2 @@
+-- What a key that is refused leaves.
+pub mod Refused

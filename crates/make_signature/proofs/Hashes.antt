@@ -1,0 +1,108 @@
+-- What the passes absorb is what h1, h2 and h3 bind, and what they draw are the challenges. Assumes nothing.
+use mathlib.Core.Path.{_≡_, refl, ap, fun-ext, _∙_}
+use mathlib.Core.List.{List, _∷_, _++_}
+use Prim.Native.Nat.{ℕ, _+_, _-_, _*_}
+use lib.Dec.{lit<}
+use lib.ListN.{length}
+use Rattle.slices.specs.Lists.{rows, row, part}
+use Rattle.slices.specs.Bytes.{Bytes, cons-bytes, append-bytes, rows-bytes}
+use Rattle.slices.specs.Numbers.{numberAt, bytesOf, bytesOf-bytes}
+use Rattle.slices.specs.Layout.{total}
+use Rattle.absorb_rows.proofs.Laws.{hashed}
+use Rattle.shake.specs.Shake128.{shake128}
+use Rattle.shake.specs.Laws.{sized-shake}
+use Rattle.stream.specs.declared.Sponge.{Sponge}
+use Rattle.stream.specs.Stream.{empty, absorbed, finished, squeezed}
+use Rattle.banquet.specs.declared.Shape.{Shape}
+use Rattle.banquet.specs.Shape.{frameSizes, firstChallengeLength}
+use Rattle.banquet.specs.Sets.{aesScheme}
+use Rattle.banquet.specs.Hash.{firstHash, secondHash, thirdHash, firstChallenge, secondChallenge, hiddenParty, evaluationPoint, partyOf}
+use Rattle.sets.specs.Valid.{Valid}
+use Rattle.signing.specs.Steps.{offsetsAt, ownPart, pointRows, pointLasts, offsetFrame, openedFrame, openedPart, finishedFrame}
+use Rattle.signing.specs.Own.{own-part-bytes}
+use Rattle.signing.specs.Kept.{offset-part-bytes, opened-part-bytes}
+
+-- ---- lengths
+
+module _ (S : Shape) where
+  pub first-size : (publicKey message salt : List ℕ) (f : ℕ → List ℕ) → length (firstHash (aesScheme S) publicKey message salt f) ≡ 32
+  unfolding firstHash
+  first-size publicKey message salt f = sized-shake _ 32 .size
+
+  pub second-size : (h1 : List ℕ) (f : ℕ → List ℕ) → length (secondHash (aesScheme S) h1 f) ≡ 32
+  unfolding secondHash
+  second-size h1 f = sized-shake _ 32 .size
+
+  pub third-size : (h2 : List ℕ) (f : ℕ → List ℕ) → length (thirdHash (aesScheme S) h2 f) ≡ 32
+  unfolding thirdHash
+  third-size h2 f = sized-shake _ 32 .size
+
+module _ {S : Shape} (v : Valid S) where
+  open Shape S using (executions, wide)
+
+  pub first-hashed : {publicKey message salt witness : List ℕ} (front roots : List ℕ) {s t : Sponge} → Bytes publicKey → Bytes message → Bytes salt
+      → Bytes witness → s ≡ absorbed empty (1 ∷ (publicKey ++ bytesOf 4 (length message) ++ message ++ salt))
+      → t ≡ absorbed s (rows (λ e. ownPart S front witness salt (row 16 e roots) e) executions)
+      → squeezed (finished t) 32 ≡ firstHash (aesScheme S) publicKey message salt (λ e. ownPart S front witness salt (row 16 e roots) e)
+  unfolding firstHash
+  first-hashed {publicKey} {message} {salt} {witness} front roots p m b w e f =
+      hashed (1 ∷ (publicKey ++ bytesOf 4 (length message) ++ message ++ salt)) (rows (λ e. ownPart S front witness salt (row 16 e roots) e) executions)
+      (cons-bytes (lit< tt) (append-bytes (append-bytes (append-bytes p (bytesOf-bytes 4 (length message))) m) b))
+      (rows-bytes _ executions (λ e l. own-part-bytes v witness salt (row 16 e roots) e front w)) e f
+
+  pub second-hashed : {h1 frames : List ℕ} {n : ℕ} {s t : Sponge} → Bytes h1 → Bytes frames → s ≡ absorbed empty (2 ∷ h1) → n ≡ total (frameSizes S)
+      → t ≡ absorbed s (rows (λ e. part (offsetsAt S + 216) (21 * wide) (row n e frames)) executions)
+      → squeezed (finished t) 32
+      ≡ secondHash (aesScheme S) h1 (λ e. part (offsetsAt S + 216) (21 * wide) (row (total (frameSizes S)) e frames))
+  unfolding secondHash
+  second-hashed {h1} {frames} {n} {s} p q e z f =
+      hashed (2 ∷ h1) (rows (λ e. part (offsetsAt S + 216) (21 * wide) (row (total (frameSizes S)) e frames)) executions)
+      (cons-bytes (lit< tt) p) (rows-bytes _ executions (λ e l. offset-part-bytes v e q)) e
+      (f ∙ ap (λ n. absorbed s (rows (λ e. part (offsetsAt S + 216) (21 * wide) (row n e frames)) executions)) z)
+
+  -- ---- the passes that draw challenges
+
+  -- the second challenge's bytes for all executions
+  module _ (h2 : List ℕ) {seconds : List ℕ} (drawn : seconds ≡ shake128 (7 ∷ h2) (executions * wide)) where
+    second-at : (e : ℕ) → evaluationPoint (S .m2) (numberAt wide e seconds) ≡ secondChallenge (aesScheme S) h2 e
+    unfolding secondChallenge
+    second-at e = ap (λ t. evaluationPoint (S .m2) (numberAt wide e t)) drawn
+
+    module _ (front salt roots firsts frames : List ℕ) where
+      pub opened-right : {out : List ℕ}
+          → out ≡ rows (λ e. openedFrame S front salt (row 16 e roots) e (row (firstChallengeLength S) e firsts)
+          (evaluationPoint (S .m2) (numberAt wide e seconds)) (row (total (frameSizes S)) e frames)) executions
+          → out ≡ rows (λ e. openedFrame S front salt (row 16 e roots) e (row (firstChallengeLength S) e firsts)
+          (secondChallenge (aesScheme S) h2 e) (row (total (frameSizes S)) e frames)) executions
+      opened-right h =
+          h ∙ ap (λ f. rows (λ e. openedFrame S front salt (row 16 e roots) e (row (firstChallengeLength S) e firsts) (f e)
+          (row (total (frameSizes S)) e frames)) executions) (fun-ext second-at)
+
+      pub third-hashed : {s t : Sponge} → Bytes h2 → s ≡ absorbed empty (3 ∷ h2)
+          → t ≡ absorbed s (rows (λ e. openedPart S front salt (row 16 e roots) e (row (firstChallengeLength S) e firsts)
+          (evaluationPoint (S .m2) (numberAt wide e seconds)) (row (total (frameSizes S)) e frames)) executions)
+          → squeezed (finished t) 32
+          ≡ thirdHash (aesScheme S) h2 (λ e. openedPart S front salt (row 16 e roots) e (row (firstChallengeLength S) e firsts)
+          (secondChallenge (aesScheme S) h2 e) (row (total (frameSizes S)) e frames))
+      unfolding thirdHash
+      third-hashed {s} p e f =
+          hashed (3 ∷ h2) (rows (λ e. openedPart S front salt (row 16 e roots) e (row (firstChallengeLength S) e firsts)
+          (secondChallenge (aesScheme S) h2 e) (row (total (frameSizes S)) e frames)) executions)
+          (cons-bytes (lit< tt) p) (rows-bytes _ executions (λ e l. opened-part-bytes v _ _ _ e _ _ _)) e
+          (f ∙ ap (λ g. absorbed s (rows (λ e. openedPart S front salt (row 16 e roots) e (row (firstChallengeLength S) e firsts) (g e)
+          (row (total (frameSizes S)) e frames)) executions)) (fun-ext second-at))
+
+  pub finished-right : (h3 salt roots frames : List ℕ) {thirds out : List ℕ} → thirds ≡ shake128 (8 ∷ h3) (executions * 4)
+      → out ≡ rows (λ e. finishedFrame S salt (row 16 e roots) e (partyOf (S .parties) (numberAt 4 e thirds)) (row (total (frameSizes S)) e frames))
+      executions
+      → out ≡ rows (λ e. finishedFrame S salt (row 16 e roots) e (hiddenParty (aesScheme S) h3 e) (row (total (frameSizes S)) e frames)) executions
+  unfolding hiddenParty
+  finished-right h3 salt roots frames d h = h ∙ rw d refl
+
+  pub offset-right : (h1 inputs inverses frames : List ℕ) {us vs lasts firsts out : List ℕ} → us ≡ pointRows S inputs → vs ≡ pointRows S inverses
+      → lasts ≡ pointLasts S → firsts ≡ shake128 (6 ∷ h1) (executions * firstChallengeLength S)
+      → out ≡ rows (λ e. offsetFrame S us vs lasts (row (firstChallengeLength S) e firsts) (row (total (frameSizes S)) e frames)) executions
+      → out ≡ rows (λ e. offsetFrame S (pointRows S inputs) (pointRows S inverses) (pointLasts S) (firstChallenge (aesScheme S) h1 e)
+      (row (total (frameSizes S)) e frames)) executions
+  unfolding firstChallenge
+  offset-right h1 inputs inverses frames p q r d h = h ∙ rw (p, q, r, d) refl

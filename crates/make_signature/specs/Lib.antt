@@ -1,0 +1,2 @@
+-- What the steps of signing are given.
+pub mod Given

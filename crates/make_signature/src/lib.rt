@@ -1,0 +1,250 @@
+// A signature made by the holder of the key, for any parameter set: four passes over its executions, with a hash after each of the first three.
+use banquet::Shape;
+ghost use mathlib.Core.Path.{_≡_};
+ghost use mathlib.Core.List.{_∷_, _++_};
+ghost use Prim.Native.Nat.{_+_, _*_, _≤_};
+ghost use lib.ListN.{length, take};
+ghost use Rattle.slices.specs.Lists.{rows, row, part, put};
+ghost use Rattle.slices.specs.Layout.{total};
+ghost use Rattle.shake.specs.Shake128.{shake128};
+ghost use Rattle.banquet.specs.Shape.{firstChallengeLength, frameSizes, signatureLength};
+ghost use Rattle.banquet.specs.Sets.{aesScheme};
+ghost use Rattle.banquet.specs.Hash.{firstHash, secondHash, thirdHash, firstChallenge, secondChallenge, hiddenParty};
+ghost use Rattle.banquet.specs.Signature.{signerH1, signerH3, signerFrame, signature};
+ghost use Rattle.sets.specs.Valid.{Valid};
+ghost use Rattle.scratch.specs.Scratch.{Scratch};
+ghost use Rattle.signing.specs.Steps.{offsetsAt, ownRow, ownPart, pointRows, pointLasts, offsetFrame, openedFrame, openedPart, finishedFrame};
+ghost use Rattle.make_signature.specs.Given.{Given, Frames};
+
+// h1 and h3.
+struct Heads {
+    first: [u8; 32],
+    third: [u8; 32],
+}
+
+// The offsets of key and inverses into the frames, and h1. The work slice's front is scratch for the tapes of one execution.
+fn commit_pass(
+    shape: Shape,
+    public: &[u8],
+    message: &[u8],
+    salt: &[u8],
+    roots: &[u8],
+    witness: &[u8],
+    frames: &mut [u8],
+    work: &mut [u8],
+) -> [u8; 32]
+    requires { ⌜ Frames shape (now frames) × (length (now public) ≡ 32) × (length (now salt) ≡ 32) × (length (now roots) ≡ shape .executions * 16)
+        × (length (now witness) ≡ 216) × (65536 ≤ length (now work)) ⌝ }
+    ensures { λ r. ⌜ r
+        ≡ firstHash (aesScheme shape) (now (public .entry)) (now (message .entry)) (now (salt .entry))
+        (λ e. ownPart shape (take 16 (now (public .entry))) (now (witness .entry)) (now (salt .entry)) (row 16 e (now (roots .entry))) e) ⌝ }
+    ensures { λ _. ⌜ now (frames .exit)
+        ≡ rows (λ e. put (row (total (frameSizes shape)) e (now (frames .entry))) (offsetsAt shape)
+        (ownRow shape (now (witness .entry)) (now (salt .entry)) (row 16 e (now (roots .entry))) e)) (shape .executions) ⌝ }
+    ensures { λ _. ⌜ Scratch (now (work .entry)) (now (work .exit)) ⌝ }
+{
+    let size = shape.parties * (216 + 41 * shape.wide);
+    let s = hash_inputs::first_input(public, message, salt);
+    let t = commit::commit_frames(
+        shape,
+        salt,
+        roots,
+        &public[0..16],
+        witness,
+        frames,
+        &mut work[0..size],
+        s,
+    );
+    let mut h = [0u8; 32];
+    hash_inputs::output(t, &mut h);
+    h
+}
+
+// The first challenges, and under them the product offsets into the frames.
+fn offset_pass(
+    shape: Shape,
+    inputs: &[u8],
+    inverses: &[u8],
+    h1: &[u8],
+    firsts: &mut [u8],
+    frames: &mut [u8],
+)
+    requires { ⌜ Frames shape (now frames) × (length (now inputs) ≡ 200) × (length (now inverses) ≡ 200) × (length (now h1) ≡ 32)
+        × (length (now firsts) ≡ shape .executions * firstChallengeLength shape) ⌝ }
+    ensures { λ _. ⌜ now (firsts .exit) ≡ shake128 (6 ∷ now (h1 .entry)) (shape .executions * firstChallengeLength shape) ⌝ }
+    ensures { λ _. ⌜ now (frames .exit)
+        ≡ rows (λ e. offsetFrame shape (pointRows shape (now (inputs .entry))) (pointRows shape (now (inverses .entry))) (pointLasts shape)
+        (firstChallenge (aesScheme shape) (now (h1 .entry)) e) (row (total (frameSizes shape)) e (now (frames .entry)))) (shape .executions) ⌝ }
+{
+    hash_inputs::draw(6, h1, firsts);
+    let mut us = [0u64; 210];
+    let mut vs = [0u64; 210];
+    let mut lasts = [0u64; 21];
+    true_rows::true_rows(shape, inputs, inverses, &mut us, &mut vs, &mut lasts);
+    offset_frames::offset_frames(shape, &us, &vs, &lasts, firsts, frames);
+}
+
+// "2: h1, all product offsets; gives h2, 32 bytes."
+fn hash_offsets(shape: Shape, h1: &[u8], frames: &[u8]) -> [u8; 32]
+    requires { ⌜ Frames shape (now frames) × (length (now h1) ≡ 32) ⌝ }
+    ensures { λ r. ⌜ r
+        ≡ secondHash (aesScheme shape) (now (h1 .entry))
+        (λ e. part (offsetsAt shape + 216) (21 * shape .wide) (row (total (frameSizes shape)) e (now (frames .entry)))) ⌝ }
+{
+    let len = 248 + 16 * shape.depth + 42 * shape.wide;
+    let p = shape.depth * 16 + 32 + 216;
+    let s = hash_inputs::tagged(2, h1);
+    let t = absorb_rows::absorb_column(s, shape.executions, len, p, 21 * shape.wide, frames);
+    let mut h = [0u8; 32];
+    hash_inputs::output(t, &mut h);
+    h
+}
+
+// The sums c, a and b under the second challenges into the frames, and h3. The work slice's front is scratch for the shares of one execution.
+fn open_pass(
+    shape: Shape,
+    public: &[u8],
+    salt: &[u8],
+    roots: &[u8],
+    h2: &[u8],
+    firsts: &[u8],
+    frames: &mut [u8],
+    work: &mut [u8],
+) -> [u8; 32]
+    requires { ⌜ Frames shape (now frames) × (length (now public) ≡ 32) × (length (now salt) ≡ 32) × (length (now roots) ≡ shape .executions * 16)
+        × (length (now h2) ≡ 32) × (length (now firsts) ≡ shape .executions * firstChallengeLength shape) × (65536 ≤ length (now work)) ⌝ }
+    ensures { λ r. ⌜ r
+        ≡ thirdHash (aesScheme shape) (now (h2 .entry))
+        (λ e. openedPart shape (take 16 (now (public .entry))) (now (salt .entry)) (row 16 e (now (roots .entry))) e
+        (row (firstChallengeLength shape) e (now (firsts .entry))) (secondChallenge (aesScheme shape) (now (h2 .entry)) e)
+        (row (total (frameSizes shape)) e (now (frames .entry)))) ⌝ }
+    ensures { λ _. ⌜ now (frames .exit)
+        ≡ rows (λ e. openedFrame shape (take 16 (now (public .entry))) (now (salt .entry)) (row 16 e (now (roots .entry))) e
+        (row (firstChallengeLength shape) e (now (firsts .entry))) (secondChallenge (aesScheme shape) (now (h2 .entry)) e)
+        (row (total (frameSizes shape)) e (now (frames .entry)))) (shape .executions) ⌝ }
+    ensures { λ _. ⌜ Scratch (now (work .entry)) (now (work .exit)) ⌝ }
+{
+    let w = shape.executions * shape.wide;
+    let size = shape.parties * (16 + 21 * shape.wide);
+    let mut seconds = [0u8; 1536];
+    hash_inputs::draw(7, h2, &mut seconds[0..w]);
+    let s = hash_inputs::tagged(3, h2);
+    let t = open_frames::open_frames(
+        shape,
+        salt,
+        roots,
+        &public[0..16],
+        firsts,
+        &seconds[0..w],
+        frames,
+        &mut work[0..size],
+        s,
+    );
+    let mut h = [0u8; 32];
+    hash_inputs::output(t, &mut h);
+    h
+}
+
+// The rest of the frames, the hidden parties being those of h3.
+fn finish_pass(shape: Shape, salt: &[u8], roots: &[u8], h3: &[u8], frames: &mut [u8])
+    requires { ⌜ Frames shape (now frames) × (length (now salt) ≡ 32) × (length (now roots) ≡ shape .executions * 16) × (length (now h3) ≡ 32) ⌝ }
+    ensures { λ _. ⌜ now (frames .exit)
+        ≡ rows (λ e. finishedFrame shape (now (salt .entry)) (row 16 e (now (roots .entry))) e
+        (hiddenParty (aesScheme shape) (now (h3 .entry)) e) (row (total (frameSizes shape)) e (now (frames .entry)))) (shape .executions) ⌝ }
+{
+    let p = shape.executions * 4;
+    let mut thirds = [0u8; 1024];
+    hash_inputs::draw(8, h3, &mut thirds[0..p]);
+    finish_frames::finish_frames(shape, salt, roots, &thirds[0..p], frames);
+}
+
+// The key, and the inverses of the S-boxes' inputs behind it.
+fn join(key: &[u8], inverses: &[u8]) -> [u8; 216]
+    requires { ⌜ (length (now key) ≡ 16) × (length (now inverses) ≡ 200) ⌝ }
+    ensures { λ r. ⌜ r ≡ now (key .entry) ++ now (inverses .entry) ⌝ }
+{
+    let mut witness = [0u8; 216];
+    slices::copy_at(&mut witness, 0, key);
+    slices::copy_at(&mut witness, 16, inverses);
+    witness
+}
+
+// All frames; h1 and h3.
+fn make_frames(
+    shape: Shape,
+    key: &[u8],
+    public: &[u8],
+    message: &[u8],
+    salt: &[u8],
+    roots: &[u8],
+    inputs: &[u8],
+    inverses: &[u8],
+    firsts: &mut [u8],
+    frames: &mut [u8],
+    work: &mut [u8],
+) -> Heads
+    requires { ⌜ Given shape (now key) (now public) (now salt) (now roots) (now inputs) (now inverses)
+        × (length (now firsts) ≡ shape .executions * firstChallengeLength shape)
+        × (length (now frames) ≡ shape .executions * total (frameSizes shape)) × (65536 ≤ length (now work)) ⌝ }
+    ensures { λ r. ⌜ r .first
+        ≡ signerH1 (aesScheme shape) (now (key .entry)) (now (public .entry)) (now (message .entry)) (now (salt .entry)) (now (roots .entry)) ⌝ }
+    ensures { λ r. ⌜ r .third
+        ≡ signerH3 (aesScheme shape) (now (key .entry)) (now (public .entry)) (now (message .entry)) (now (salt .entry)) (now (roots .entry)) ⌝ }
+    ensures { λ _. ⌜ now (frames .exit)
+        ≡ rows (signerFrame (aesScheme shape) (now (key .entry)) (now (public .entry)) (now (message .entry)) (now (salt .entry)) (now (roots .entry)))
+        (shape .executions) ⌝ }
+    ensures { λ _. ⌜ Scratch (now (work .entry)) (now (work .exit)) ⌝ }
+{
+    let witness = join(key, inverses);
+    let h1 = commit_pass(shape, public, message, salt, roots, &witness, frames, work);
+    offset_pass(shape, inputs, inverses, &h1, firsts, frames);
+    let h2 = hash_offsets(shape, &h1, frames);
+    let h3 = open_pass(shape, public, salt, roots, &h2, firsts, frames, work);
+    finish_pass(shape, salt, roots, &h3, frames);
+    Heads {
+        first: h1,
+        third: h3,
+    }
+}
+
+// The signature, into a slice of its length; the work slice's front is scratch.
+pub fn make(
+    shape: Shape,
+    key: &[u8],
+    public: &[u8],
+    message: &[u8],
+    salt: &[u8],
+    roots: &[u8],
+    inputs: &[u8],
+    inverses: &[u8],
+    out: &mut [u8],
+    work: &mut [u8],
+)
+    requires { ⌜ Given shape (now key) (now public) (now salt) (now roots) (now inputs) (now inverses)
+        × (length (now out) ≡ signatureLength shape) × (65536 ≤ length (now work)) ⌝ }
+    ensures { λ _. ⌜ now (out .exit)
+        ≡ signature (aesScheme shape) (now (key .entry)) (now (public .entry)) (now (message .entry)) (now (salt .entry)) (now (roots .entry)) ⌝ }
+    ensures { λ _. ⌜ Scratch (now (work .entry)) (now (work .exit)) ⌝ }
+{
+    let n = shape.executions * (shape.m1 * shape.wide);
+    let end = out.len();
+    let mut firsts = [0u8; 15360];
+    let heads = make_frames(
+        shape,
+        key,
+        public,
+        message,
+        salt,
+        roots,
+        inputs,
+        inverses,
+        &mut firsts[0..n],
+        &mut out[96..end],
+        work,
+    );
+    let first = heads.first;
+    let third = heads.third;
+    slices::copy_at(out, 0, salt);
+    slices::copy_at(out, 32, &first);
+    slices::copy_at(out, 64, &third);
+}

@@ -1,0 +1,2 @@
+-- The call that signs a message, case by case.
+pub mod Answers
