@@ -3,8 +3,8 @@
 
 ORACLE is the directory of oracle.py, an implementation of document 01 in plain Python that was written apart from this repository, with the vectors
 that it made: keys, signatures, and altered signatures and inputs, each with the answer that its tamper.py works out by rule. The answers here are
-check_seal's, and are compared with the vectors' own. How work ends is document 01's rule. The program's source says what stands in a line. Of the
-second and third vector only the first three altered signatures are taken.
+seal's and check_seal's, and are compared with the vectors' own. How output and work end is document 01's rule. The program's source says what stands
+in a line. Of the second and third vector only the first three altered signatures are taken.
 """
 import json
 import os
@@ -16,9 +16,9 @@ import oracle  # noqa: E402
 import tamper  # noqa: E402
 
 WORK, SIGNATURE, MESSAGE = oracle.WORK_LEN, 19776, 32768
-WORK_ROOM = 65600
+WORK_ROOM, OUTPUT_ROOM = 65600, 19800
 # where what is lent stands
-AT = {'public_key': 17, 'message': 740, 'signature': 33509}
+AT = {'key': 0, 'public_key': 17, 'salt': 50, 'seeds': 83, 'message': 740, 'signature': 33509}
 lent = bytearray(53286)
 read, written = [], []
 
@@ -53,6 +53,22 @@ def verify(public_key, message, signature, work=WORK):
     return verdict
 
 
+def sign(key, public_key, message, salt, seeds, output=SIGNATURE, work=WORK):
+    """The signature, or number and place."""
+    for name, value in ('key', key), ('public_key', public_key), ('message', message), ('salt', salt), ('seeds', seeds):
+        lend(name, value)
+    made = oracle.seal(key, public_key, message, salt, seeds, output, work)
+    if made[0] == 'accepted':
+        lend('signature', made[1])
+    read.append('s' + numbers((1, len(key)), (1, len(public_key)), (1, len(salt)), (2, len(seeds)), (3, len(message)), (3, output), (3, work)).hex())
+    if made[0] == 'accepted':
+        written.append(' '.join(map(str, ('s', 0, 0, WORK, WORK_ROOM, OUTPUT_ROOM, 'same'))))
+        return made[1]
+    verdict = told(made)
+    written.append(' '.join(map(str, ('s', *verdict, 0, WORK_ROOM, OUTPUT_ROOM))))
+    return verdict
+
+
 def expected(item):
     return item['expected'].get('number', 0), item['expected'].get('place', 0)
 
@@ -68,6 +84,8 @@ for name in ('vector_000.json', 'vector_001.json', 'vector_002.json'):
         vectors.append(json.load(file))
 for i, v in enumerate(vectors):
     public_key, message, signature = (bytes.fromhex(v[field]) for field in ('public_key', 'message', 'seal'))
+    key, salt, seeds = (bytes.fromhex(v[field]) for field in ('key', 'salt', 'seeds'))
+    assert sign(key, public_key, message, salt, seeds, SIGNATURE + i, WORK + i) == signature
     assert verify(public_key, message, signature, WORK + i) == (0, 0)
     for item in v['tampered_seals'] if i == 0 else v['tampered_seals'][:3]:
         assert verify(public_key, message, tamper.apply(signature, changes_of(item))) == expected(item), item['name']
@@ -86,6 +104,39 @@ assert verify(public_key[:31], bytes(MESSAGE + 1), signature[:-1], 0) == (2, 0)
 assert verify(public_key, bytes(MESSAGE + 1), signature[:-1], 0) == (3, 0)
 assert verify(public_key, bytes(MESSAGE), signature + b'\0', 0) == (6, 0)
 assert verify(public_key, bytes(MESSAGE), signature) == (16, 0)
+
+# messages of 0, 8 and 32,768 bytes; keys that meet a zero, by FIPS 197's example and among the key's last bytes, and a key for another ciphertext
+key, salt, seeds = (bytes.fromhex(vectors[0][field]) for field in ('key', 'salt', 'seeds'))
+for m in b'', message[:8], bytes(MESSAGE):
+    assert verify(public_key, m, sign(key, public_key, m, salt, seeds, OUTPUT_ROOM, WORK_ROOM)) == (0, 0)
+assert sign(key, public_key, bytes(MESSAGE + 1), salt, seeds) == (3, 0)
+zero, plaintext = bytes(range(16)), bytes.fromhex('00112233445566778899aabbccddeeff')
+ciphertext = bytes.fromhex('69c4e0d86a7b0430d8cdb78070b4c55a')
+assert sign(zero, plaintext + ciphertext, message, salt, seeds) == (11, 40)
+assert sign(zero, plaintext + bytes(16), message, salt, seeds) == (11, 40)
+assert sign(key[:14] + b'\0' + key[15:], public_key, message, salt, seeds) == (11, 1)
+assert sign(key, public_key[:31] + bytes([public_key[31] ^ 1]), message, salt, seeds) == (12, 0)
+
+# lengths, and the first of two reasons
+for k in 0, 15, 17:
+    assert sign((key + b'\0')[:k], public_key, message, salt, seeds) == (1, 0)
+for k in 0, 31, 33:
+    assert sign(key, (public_key + b'\0')[:k], message, salt, seeds) == (2, 0)
+    assert sign(key, public_key, message, (salt + b'\0')[:k], seeds) == (4, 0)
+for k in 0, 655, 657:
+    assert sign(key, public_key, message, salt, (seeds + b'\0')[:k]) == (5, 0)
+for k in 0, SIGNATURE - 1:
+    assert sign(key, public_key, message, salt, seeds, k) == (6, 0)
+for k in 0, WORK - 1:
+    assert sign(key, public_key, message, salt, seeds, SIGNATURE, k) == (7, 0)
+long, short = bytes(MESSAGE + 1), SIGNATURE - 1
+assert sign(zero[:15], public_key[:31], long, salt[:31], seeds[:655], short, 0) == (1, 0)
+assert sign(zero, public_key[:31], long, salt[:31], seeds[:655], short, 0) == (2, 0)
+assert sign(zero, plaintext + bytes(16), long, salt[:31], seeds[:655], short, 0) == (3, 0)
+assert sign(zero, plaintext + bytes(16), message, salt[:31], seeds[:655], short, 0) == (4, 0)
+assert sign(zero, plaintext + bytes(16), message, salt, seeds[:655], short, 0) == (5, 0)
+assert sign(zero, plaintext + bytes(16), message, salt, seeds, short, 0) == (6, 0)
+assert sign(zero, plaintext + bytes(16), message, salt, seeds, SIGNATURE, 0) == (7, 0)
 
 with open('crates/vectors_signature/stdin', 'w') as f:
     f.write(''.join(line + '\n' for line in read))
