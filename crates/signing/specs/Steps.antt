@@ -43,7 +43,8 @@ module _ (S : Shape) where
         rows (λ i. commitment (aesScheme S) salt e i (seedOf (aesScheme S) salt root e i)) parties
         ++ rows (λ i. outputShare (aesScheme S) ownCommitments i (tapeOf (aesScheme S) salt root e i)) parties ++ take 216 own
 
-  -- ---- under the first challenge: the product offsets, in the frame behind the other offsets
+  -- ---- under the first challenge: the product offsets, in the frame behind the other offsets. P's shares "at 20 to 40 .. are tape shares with
+  -- product offsets", and P there is "the sum of S_j times T_j".
 
   -- the rows of the S-boxes' inputs or inverses at the points 20 to 40, and Lagrange's values there for the extra point
   abbrev pub pointRows : List ℕ → List ℕ
@@ -56,9 +57,10 @@ module _ (S : Shape) where
   offsetFrame us vs lasts first frame =
       put frame (offsetsAt + 216) (workedOffsets S us vs lasts (part offsetsAt (total (tapeSizes S)) frame) first)
 
-  -- ---- under the second challenge, with the offsets that the frame has
+  -- ---- under the second challenge, with the offsets that the frame has: "Opened are c = P(R), a_j = S_j(R), b_j = T_j(R), with shares."
 
   module _ (front salt root : List ℕ) (e : ℕ) (first : List ℕ) (second : ℕ) (frame : List ℕ) where
+    -- party i's shares of the output, of c, a and b
     unfoldable pub frameShares : ℕ → List ℕ
     frameShares i =
         shareRow (aesScheme S) (committed front (framePart (aesScheme S) frame 2) (framePart (aesScheme S) frame 3))
