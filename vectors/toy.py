@@ -373,7 +373,7 @@ def signature_rows():
 
 def card_rows():
     def card_told(t):
-        return told('cardAnswer toy ' + t.text, card(TOY, t.value))
+        return told('cardChecked toy ' + t.text, card(TOY, t.value))
 
     ends = [sum(map(len, lines[:n + 1])) for n in range(5)]  # behind each line's end
     yield 'as it should be; nothing; no message; another c in the last frame'
@@ -416,12 +416,14 @@ def text_rows():
     yield 'how many digits a message may have'
     for n in (0, 1, 65536, 65537, 65538):
         text = hexadecimal(public_key.value) + b'0' * n + b'\n'
-        yield 'choose (hasLength toy 2 %d) (1 ∷ []) (0 ∷ [])' % n, [int(card(TOY, text) == (18, 3))]
+        yield 'choose (hasSize true 32768 %d) (1 ∷ []) (0 ∷ [])' % n, [int(card(TOY, text) == (18, 3))]
     yield 'what is printed'
     for verdict in ((0, 0), (18, 1), (1, 0), (9, 0), (11, 199), (14, 16), (15, 40), (18, 45), (10, 100)):
         yield 'printed (verdict %d %d)' % verdict, printed(*verdict)
     yield 'for no text'
-    yield 'printed (verdictOf (cardAnswer toy []))', printed(*card(TOY, b''))
+    yield 'printed (verdictOf (cardChecked toy []))', printed(*card(TOY, b''))
+    yield 'a card\'s text'
+    yield 'cardText toy publicKey message signatureFile', card_text.value
     yield 'frames of a signature: both, the next, one of a file that is too short'
     for e, file in ((0, signature), (1, signature), (2, signature), (0, take(SEAL - 1, signature))):
         yield 'frameOf toy %s %d' % (file.text, e), frame_of(TOY, file.value, e)
@@ -447,6 +449,7 @@ def other_rows():
 # ---- the file
 
 HEADER = """-- Written by vectors/toy.py: what the definitions are asked for, and what they ought to give.
+use mathlib.Core.Bool.{true}
 use mathlib.Core.List.{List, [], _∷_, _++_, map}
 use Prim.Native.Nat.{ℕ}
 use lib.ListN.{getD, take, drop, replicate}
@@ -469,8 +472,8 @@ use Rattle.banquet.specs.Calls.{
   verifyOpeningAnswer,
   verifyOpening,
 }
-use Rattle.banquet.specs.Card.{hasLength, cardAnswer, printed}
-use Rattle.toy.specs.Toy.{toy, rowsToy, wideToy, Row, answers, insert, remove, openingChecked, signatureChecked}
+use Rattle.banquet.specs.Card.{hasSize, cardText, printed}
+use Rattle.toy.specs.Toy.{toy, rowsToy, wideToy, Row, answers, insert, remove, openingChecked, signatureChecked, cardChecked}
 """
 
 VERDICTS, LISTS = 'List (Row Verdict)', 'List (Row (List ℕ))'

@@ -41,3 +41,10 @@ pub struct Shape {
     pub m2: usize,
     pub front: usize,
 }
+
+// What a byte of a text in hexadecimal is: a digit with its value, the end of a line, or anything else.
+pub enum Symbol {
+    Value(u8),
+    LineEnd,
+    Other,
+}

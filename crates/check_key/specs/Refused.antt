@@ -1,24 +1,14 @@
 -- A key that isn't good for a public key is refused as 11 or 12: then a call leaves output and work slice as they are. Assumes nothing.
 use mathlib.Core.Path.{_≡_, refl}
 use mathlib.Core.Bool.{Bool, true, false}
-use mathlib.Core.List.{List, [], _∷_}
+use mathlib.Core.List.{List}
 use Prim.Native.Nat.{ℕ}
-use types.Run.{OneOf, miss}
-use denote.Enum.Declared.{tagOf}
-use Rattle.banquet.proofs.Answer.{the-type}
 use Rattle.banquet.specs.declared.Answer.{Answer}
 use Rattle.banquet.specs.declared.Answer.the-variants.{Accepted, ZeroInput, WrongKey}
 use Rattle.banquet.specs.Scheme.{Scheme}
 use Rattle.banquet.specs.Answer.{require, workAfter, outputAfter}
 use Rattle.banquet.specs.Key.{checkInputs, checkKey}
-
--- the places of the refusals among the answers
-abbrev refusals : List ℕ
-refusals = 1 ∷ 2 ∷ 3 ∷ 4 ∷ 5 ∷ 6 ∷ 7 ∷ 8 ∷ 9 ∷ 10 ∷ 11 ∷ 12 ∷ 13 ∷ 14 ∷ 15 ∷ 16 ∷ 17 ∷ 18 ∷ []
-
--- `_` in a `match` after `Accepted`
-abbrev pub Refusal : Answer → Type 0
-Refusal a = OneOf refusals (tagOf the-type a)
+use Rattle.verdict.specs.Refusal.{Refusal, accepted-is-none}
 
 -- the answer leaves what a call is lent as it is
 pub record Untouched (a : Answer) (file output work : List ℕ) : Type 0 where
@@ -30,7 +20,7 @@ untouched : (t u : Bool) (n : ℕ) {file output work : List ℕ} → Refusal (re
 unfolding require outputAfter workAfter
 untouched false u n h = record { output-kept = refl; work-kept = refl }
 untouched true false n h = record { output-kept = refl; work-kept = refl }
-untouched true true n h = absurd (miss refusals 0 tt h)
+untouched true true n h = absurd (accepted-is-none h)
 
 pub refusal-untouched : (𝓢 : Scheme) (publicKey key : List ℕ) {a : Answer} {file output work : List ℕ} → a ≡ checkKey 𝓢 publicKey key Accepted
     → Refusal a → Untouched a file output work

@@ -1,2 +1,2 @@
--- A law that the proof of `decode` cites.
+-- Laws that the proofs of `value`, `decode` and `encode` cite.
 mod Laws

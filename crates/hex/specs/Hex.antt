@@ -1,73 +1,91 @@
--- Text of which nothing is known, read two bytes at a time as digits: where all are digits it is Card's `decoded`. Bytes written as digits: they are
--- read back. Assumes nothing.
+-- Digits have small values and are read back as they are written, and so are bytes. Assumes nothing.
 use mathlib.Core.Path.{_≡_, refl, sym, ap, ap₂, _∙_}
-use mathlib.Core.Bool.{true}
+use mathlib.Core.Bool.{Bool, true, false}
 use mathlib.Core.List.{List, [], _∷_}
 use Prim.Native.Nat.{ℕ, _+_, _-_, _*_, _/_, _%_, _<_}
 use native.Mathlib.Omega.{arith}
-use lib.Dec.{eqb, ltb}
-use lib.ListN.{getD}
-use borrow.Author.Tests.{ltb-true}
+use lib.Dec.{eqb, leb}
+use lib.ListN.{length, getD}
+use borrow.Author.Tests.{leb-true}
 use Rattle.slices.specs.Lists.{choose, tab}
 use Rattle.slices.specs.Tab.{getD-tab}
-use Rattle.slices.specs.Bytes.{Bytes, tail-bytes}
-use Rattle.slices.specs.Tests.{and-split}
-use Rattle.banquet.specs.Card.{digitValue, allDigits, decoded}
-
--- the byte of two digits, the high one first; a byte that is no digit counts 0
-unfoldable pub pair : ℕ → ℕ → ℕ
-pair high low = 16 * (digitValue high % 16) + digitValue low % 16
-
--- two digits a byte; one left over is not read
-unfoldable pub pairs : List ℕ → List ℕ
-pairs [] = []
-pairs (a ∷ []) = []
-pairs (a ∷ b ∷ s) = pair a b ∷ pairs s
-
-pair-digits : (a b : ℕ) → digitValue a < 16 → digitValue b < 16 → pair a b ≡ 16 * digitValue a + digitValue b
-unfolding pair
-pair-digits a b h k = omega arith
-
--- so a caller that has tested its text has what the card stands for
-pub pairs-decoded : (s : List ℕ) → allDigits s ≡ true → pairs s ≡ decoded s
-unfolding pairs allDigits decoded
-pairs-decoded [] h = refl
-pairs-decoded (a ∷ []) h = refl
-pairs-decoded (a ∷ b ∷ s) h =
-    let p = and-split (ltb (digitValue a) 16) _ h in
-    let q = and-split (ltb (digitValue b) 16) (allDigits s) (p .1) in
-    ap₂ _∷_ (pair-digits a b (ltb-true (digitValue a) 16 (p .0)) (ltb-true (digitValue b) 16 (q .0))) (pairs-decoded s (q .1))
-
--- ---- writing
-
--- the digit of a value below 16: 0 to 9, a to f
-unfoldable pub digitOf : ℕ → ℕ
-digitOf v = choose (ltb v 10) (0x30 + v) (0x61 + (v - 10))
+use Rattle.slices.specs.Tests.{and-split, and-join}
+use Rattle.slices.specs.Bytes.{Bytes, nil-bytes, cons-bytes, tail-bytes}
+use Rattle.banquet.specs.declared.Symbol.{Symbol}
+use Rattle.banquet.specs.declared.Symbol.the-variants.{Value, LineEnd, Other}
+use Rattle.banquet.specs.Card.{within, symbolOf, isDigit, valueOf, allDigits, decoded, digitOf, encoded}
 
 -- the value of a byte's digit 0, the high one, and of digit 1
 unfoldable pub half : ℕ → ℕ → ℕ
 half b k = choose (eqb k 0) (b / 16) (b % 16)
 
--- "lower-case hexadecimal": two digits a byte, the high one first
-unfoldable pub encoded : List ℕ → List ℕ
-encoded [] = []
-encoded (b ∷ s) = digitOf (b / 16) ∷ digitOf (b % 16) ∷ encoded s
+-- ---- values
 
--- each of the sixteen digits has its value
-digits-read : tab (λ v. digitValue (digitOf v)) 16 ≡ tab (λ v. v) 16
-unfolding digitValue digitOf
-digits-read = refl
+chosen-small : (t : Bool) (x y : Symbol) → (t ≡ true → valueOf x < 16) → valueOf y < 16 → valueOf (choose t x y) < 16
+chosen-small true x y f h = f refl
+chosen-small false x y f h = h
 
-digit-read : (v : ℕ) → v < 16 → digitValue (digitOf v) ≡ v
-digit-read v h =
-    sym (getD-tab (λ v. digitValue (digitOf v)) 16 v 0 h) ∙ ap (λ (l : List ℕ). getD l v 0) digits-read ∙ getD-tab (λ v. v) 16 v 0 h
+pub value-small : (b : ℕ) → valueOf (symbolOf b) < 16
+unfolding symbolOf valueOf
+value-small b =
+    chosen-small (within 0x30 0x39 b) (Value (b - 0x30)) _
+    (λ t. omega (arith, leb-true b 0x39 (and-split (leb 0x30 b) (leb b 0x39) t .1)))
+    (chosen-small (within 0x61 0x66 b) (Value (b - 0x61 + 10)) _
+    (λ t. omega (arith, leb-true b 0x66 (and-split (leb 0x61 b) (leb b 0x66) t .1)))
+    (chosen-small (eqb b 0x0a) LineEnd Other (λ t. omega arith) (omega arith)))
+
+-- ---- the sixteen digits
+
+symbols : tab (λ v. symbolOf (digitOf v)) 16 ≡ tab (λ v. Value v) 16
+unfolding symbolOf digitOf
+symbols = refl
+
+no-ends : tab (λ v. eqb (digitOf v) 0x0a) 16 ≡ tab (λ v. false) 16
+unfolding digitOf
+no-ends = refl
+
+pub symbol-digit : (v : ℕ) → v < 16 → symbolOf (digitOf v) ≡ Value v
+symbol-digit v h =
+    sym (getD-tab (λ v. symbolOf (digitOf v)) 16 v Other h) ∙ ap (λ (l : List Symbol). getD l v Other) symbols
+    ∙ getD-tab (λ v. Value v) 16 v Other h
+
+-- a digit is no line end
+pub digit-no-end : (v : ℕ) → v < 16 → eqb (digitOf v) 0x0a ≡ false
+digit-no-end v h =
+    sym (getD-tab (λ v. eqb (digitOf v) 0x0a) 16 v false h) ∙ ap (λ (l : List Bool). getD l v false) no-ends
+    ∙ getD-tab (λ v. false) 16 v false h
+
+-- ---- bytes
+
+high-small : (b : ℕ) → b < 256 → b / 16 < 16
+high-small b h = omega arith
+
+low-small : (b : ℕ) → b % 16 < 16
+low-small b = omega arith
+
+pub length-encoded : (s : List ℕ) → length (encoded s) ≡ 2 * length s
+unfolding encoded
+length-encoded [] = refl
+length-encoded (b ∷ s) = let e = length-encoded s in omega arith
+
+pub encoded-digits : (s : List ℕ) → Bytes s → allDigits (encoded s) ≡ true
+unfolding encoded allDigits isDigit
+encoded-digits [] h = refl
+encoded-digits (b ∷ s) h =
+    and-join _ _ (ap isDigit (symbol-digit (b / 16) (high-small b (h .lt 0))))
+    (and-join _ _ (ap isDigit (symbol-digit (b % 16) (low-small b))) (encoded-digits s (tail-bytes h)))
 
 pub decoded-encoded : (s : List ℕ) → Bytes s → decoded (encoded s) ≡ s
-unfolding decoded encoded
+unfolding decoded encoded valueOf
 decoded-encoded [] h = refl
 decoded-encoded (b ∷ s) h =
-    let l : b < 256 = h .lt 0 in
-    let high : b / 16 < 16 = omega arith in
-    let low : b % 16 < 16 = omega arith in
     let e : 16 * (b / 16) + b % 16 ≡ b = omega arith in
-    ap₂ _∷_ (ap₂ (λ (x y : ℕ). 16 * x + y) (digit-read (b / 16) high) (digit-read (b % 16) low) ∙ e) (decoded-encoded s (tail-bytes h))
+    ap₂ _∷_
+    (ap₂ (λ (x y : Symbol). 16 * valueOf x + valueOf y) (symbol-digit (b / 16) (high-small b (h .lt 0))) (symbol-digit (b % 16) (low-small b)) ∙ e)
+    (decoded-encoded s (tail-bytes h))
+
+pub decoded-bytes : (s : List ℕ) → Bytes (decoded s)
+unfolding decoded
+decoded-bytes [] = nil-bytes
+decoded-bytes (a ∷ []) = nil-bytes
+decoded-bytes (a ∷ b ∷ s) = cons-bytes (omega (arith, value-small a, value-small b)) (decoded-bytes s)

@@ -1,2 +1,2 @@
--- What a text in hexadecimal stands for, whatever its bytes are; banquet's Card has it for digits.
+-- What holds of text in hexadecimal; banquet's Card defines it.
 pub mod Hex

@@ -1,29 +1,43 @@
 // Reads and writes "lower-case hexadecimal", the card's text.
+use banquet::Symbol;
 ghost use mathlib.Core.Path.{_≡_};
-ghost use Prim.Native.Nat.{_*_, _/_, _%_, _<_};
+ghost use Prim.Native.Nat.{_*_, _<_};
 ghost use lib.ListN.{length};
-ghost use Rattle.banquet.specs.Card.{digitValue};
-ghost use Rattle.hex.specs.Hex.{pairs, digitOf, half, encoded};
+ghost use Rattle.banquet.specs.Card.{symbolOf, valueOf, decoded, digitOf, encoded};
+ghost use Rattle.hex.specs.Hex.{half};
 
-// The value of a digit, and 16 for any other byte: "byte ranges for digits, letters, line end and anything else, matched in the text reader".
-pub fn digit(text: u8) -> u8
-    ensures { λ r. ⌜ r ≡ digitValue text ⌝ }
+// What a byte is: "byte ranges for digits, letters, line end and anything else, matched in the text reader".
+pub fn symbol(byte: u8) -> Symbol
+    ensures { λ r. ⌜ r ≡ symbolOf byte ⌝ }
 {
-    match text {
-        b'0'..=b'9' => text - b'0',
-        b'a'..=b'f' => text - b'a' + 10,
-        _ => 16,
+    match byte {
+        b'0'..=b'9' => Symbol::Value(byte - b'0'),
+        b'a'..=b'f' => Symbol::Value(byte - b'a' + 10),
+        b'\n' => Symbol::LineEnd,
+        _ => Symbol::Other,
     }
 }
 
-// The bytes that a text stands for. It need not be of digits: a byte that is none counts 0, so that no sum overflows.
+// A digit's value; 0 for what is none.
+fn value(byte: u8) -> u8
+    ensures { λ r. ⌜ (r ≡ valueOf (symbolOf byte)) × (r < 16) ⌝ }
+{
+    let found = symbol(byte);
+    match found {
+        Symbol::Value(value) => value,
+        Symbol::LineEnd => 0,
+        Symbol::Other => 0,
+    }
+}
+
+// The bytes that a text stands for; in it a byte that is no digit counts 0.
 pub fn decode(text: &[u8], out: &mut [u8])
     requires { ⌜ length (now text) ≡ 2 * length (now out) ⌝ }
-    ensures { λ _. ⌜ now (out .exit) ≡ pairs (now (text .entry)) ⌝ }
+    ensures { λ _. ⌜ now (out .exit) ≡ decoded (now (text .entry)) ⌝ }
 {
     for i in 0..out.len() {
-        let high = digit(text[2 * i]) % 16;
-        let low = digit(text[2 * i + 1]) % 16;
+        let high = value(text[2 * i]);
+        let low = value(text[2 * i + 1]);
         out[i] = 16 * high + low;
     }
 }

@@ -28,7 +28,8 @@ use Rattle.banquet.specs.Key.{checkKey}
 use Rattle.banquet.specs.Opening.{opening}
 use Rattle.banquet.specs.Calls.{openAnswer}
 use Rattle.sets.specs.Valid.{Valid}
-use Rattle.check_key.specs.Refused.{Refusal, refusal-untouched}
+use Rattle.verdict.specs.Refusal.{Refusal}
+use Rattle.check_key.specs.Refused.{refusal-untouched}
 use Rattle.make_opening.specs.Steps.{Lengths, Ranges}
 
 module _ {S : Shape} (v : Valid S) (key publicKey salt root first : List ℕ) (e second hidden : ℕ) (output work : List ℕ) where

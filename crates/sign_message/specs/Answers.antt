@@ -24,7 +24,8 @@ use Rattle.banquet.specs.Key.{checkKey}
 use Rattle.banquet.specs.Signature.{signature}
 use Rattle.banquet.specs.Calls.{signAnswer}
 use Rattle.sets.specs.Valid.{Valid}
-use Rattle.check_key.specs.Refused.{Refusal, refusal-untouched}
+use Rattle.verdict.specs.Refusal.{Refusal}
+use Rattle.check_key.specs.Refused.{refusal-untouched}
 
 -- every length is right
 pub record Lengths (S : Shape) (key publicKey message salt seeds : List ℕ) : Type 0 where

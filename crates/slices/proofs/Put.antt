@@ -1,12 +1,12 @@
 -- `put`: a part that was lent comes back as one, and what it does to lengths, parts and further stores. Assumes nothing.
-use mathlib.Core.Path.{_≡_, refl, sym, ap, _∙_}
+use mathlib.Core.Path.{_≡_, refl, sym, ap, subst, _∙_}
 use mathlib.Core.List.{List, [], _∷_, _++_, append-assoc, append-nil}
 use Prim.Native.Nat.{ℕ, suc, _+_, _-_, _<_, _≤_}
 use native.Mathlib.Nat.{add-zero, sub-zero}
 use native.Mathlib.Omega.{arith}
-use lib.ListN.{length, getD, set, take, drop, length-append, length-drop, take-append-drop, drop-of-length-le}
+use lib.ListN.{length, getD, set, take, drop, length-append, length-drop, length-set, take-append-drop, drop-of-length-le}
 use lib.Seq.{drop-cons, set-at, drop-drop, drop-at, take-at, drop-append-add, length-take-le}
-use borrow.Rule.Slice.PartMut.{putMid}
+use borrow.Rule.Slice.PartMut.{putMid, same-len-mid}
 use Rattle.slices.specs.Lists.{put}
 
 -- what a callee left in `&mut d[a..a + k]`, said of d
@@ -46,6 +46,12 @@ put-snoc d at s x h =
     rw (n, drop-cons d (at + length s) 0 h, ← append-assoc (take at d) s (getD d (at + length s) 0 ∷ drop (suc (at + length s)) d))
     (set-at (take at d ++ s) (getD d (at + length s) 0) (drop (suc (at + length s)) d) x (at + length s) e ∙ simp append-assoc)
 
+-- one element
+pub put-one : (d : List ℕ) (at x : ℕ) → at < length d → set d at x ≡ put d at (x ∷ [])
+put-one d at x h =
+    let e : set (put d at []) (at + 0) x ≡ put d at (x ∷ []) = put-snoc d at [] x (omega arith) in
+    ap (λ (s : List ℕ). set s at x) (put-none d at) ∙ rw add-zero at e
+
 -- d with its front replaced by p
 unfoldable pub front : List ℕ → List ℕ → List ℕ
 front p d = p ++ drop (length p) d
@@ -80,6 +86,22 @@ wrote-more s {d} {p} {l} {r} {n} {m} w h e k =
 pub wrote-all : {d p l : List ℕ} {n : ℕ} → Wrote d p n l → l ≡ p ++ drop n d
 unfolding front
 wrote-all {d} {p} {l} {n} w = w .is ∙ rw (w .size)
+
+-- the part up to m is lent, and comes back as y
+pub lent-long : {d p l : List ℕ} {n : ℕ} (m : ℕ) → Wrote d p n l → m ≤ length d → length (take (m - n) (drop n l)) ≡ m - n
+lent-long {d} {p} {l} {n} m w h = length-take-le (m - n) (drop n l) (omega (arith, length-drop n l, w .long))
+
+pub wrote-lent : (s : List ℕ) {d p l y : List ℕ} {n : ℕ} (m : ℕ) → Wrote d p n l → n ≤ m → m ≤ length d → y ≡ s
+    → length y ≡ length (take (m - n) (drop n l)) → Wrote d (p ++ s) m (putMid n (m - n) l y)
+wrote-lent s {d} {p} {l} {y} {n} m w k h e kept =
+    let long : length s ≡ m - n = ap length (sym e) ∙ kept ∙ lent-long m w h in
+    let end : n + (m - n) ≡ m = omega arith in
+    subst (λ (j : ℕ). Wrote d (p ++ s) j (putMid n (m - n) l y)) end
+    (wrote-more s w long (put-mid n (m - n) l y s e (sym long)) (same-len-mid n (m - n) l y kept))
+
+-- the next element is stored
+pub wrote-one : (x : ℕ) {d p l : List ℕ} {n : ℕ} → Wrote d p n l → n < length d → Wrote d (p ++ (x ∷ [])) (n + 1) (set l n x)
+wrote-one x {d} {p} {l} {n} w h = wrote-more (x ∷ []) w refl (put-one l n x (omega (arith, w .long))) (length-set l n x)
 
 -- a front of a elements and then k elements that are all the rest, each lent and written
 pub put-pair : (a k : ℕ) (d : List ℕ) {y y′ z z′ : List ℕ} → y ≡ y′ → length y′ ≡ a → z ≡ z′ → length d ≤ a + k

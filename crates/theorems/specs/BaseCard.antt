@@ -2,9 +2,9 @@
 use mathlib.Core.Path.{_≡_, refl}
 use mathlib.Core.List.{[], _∷_, _++_}
 use Rattle.banquet.specs.Answer.{require}
-use Rattle.banquet.specs.Card.{lineOf, isLine, checkLines, cardAnswer, decimalIn, refusedWord, printed, cardOutput}
+use Rattle.banquet.specs.Card.{lineOf, isLine, checkLines, verifyCardAnswer, decimalIn, refusedWord, refusalLine, printed, cardOutput}
 use Rattle.banquet.specs.Sets.{baseScheme}
 
 pub empty-card : cardOutput baseScheme [] ≡ refusedWord ++ (0x20 ∷ 0x31 ∷ 0x38 ∷ 0x20 ∷ 0x31 ∷ 0x0a ∷ [])
-unfolding cardOutput cardAnswer checkLines isLine lineOf require printed decimalIn
+unfolding cardOutput verifyCardAnswer checkLines isLine lineOf require printed refusalLine decimalIn
 empty-card = refl

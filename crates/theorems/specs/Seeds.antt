@@ -9,7 +9,8 @@ use native.Mathlib.Decide.{decLt}
 use borrow.Author.Tests.{lt-ltb, le-ltb}
 use lib.ListN.{length, take, drop, length-append, length-take, length-drop, List·getD-append}
 use lib.Seq.{take-at, drop-at, getD-append-add}
-use Rattle.slices.specs.Bytes.{Sized}
+use Rattle.slices.specs.Lists.{part}
+use Rattle.slices.specs.Bytes.{Bytes, Sized, nil-bytes, append-bytes, part-bytes}
 use Rattle.slices.specs.Layout.{layout}
 use Rattle.banquet.specs.Hash.{children}
 use Rattle.banquet.specs.Tree.{Node, seedAt, left, right, leaves, siblings, siblingSeeds, shownLeaves}
@@ -65,6 +66,22 @@ module _ (hash : List ℕ → ℕ → List ℕ) (hash-sized : (m : List ℕ) (n 
       go (no l) ih =
           rw (le-ltb h (2 ^ d) (omega arith), length-append)
           (omega (arith, length-left v seed, ih (2 * v + 2) (right hash salt e v seed) (h - 2 ^ d)))
+
+  children-bytes : (at v : ℕ) (seed : List ℕ) → Bytes (part at 16 (children hash salt e v seed))
+  unfolding children
+  children-bytes at v seed = part-bytes at 16 _ (hash-sized _ 32 .bytes)
+
+  pub siblingSeeds-bytes : (d v : ℕ) (seed : List ℕ) (h : ℕ) → Bytes (siblingSeeds hash salt e d v seed h)
+  unfolding siblings layout
+  siblingSeeds-bytes zero v seed h = nil-bytes
+  siblingSeeds-bytes (suc d) v seed h = go (decLt h (2 ^ d)) (siblingSeeds-bytes d)
+    where
+      go : Dec (h < 2 ^ d) → ((v : ℕ) (seed : List ℕ) (h : ℕ) → Bytes (siblingSeeds hash salt e d v seed h))
+          → Bytes (siblingSeeds hash salt e (suc d) v seed h)
+      go (yes l) ih = rw (lt-ltb h (2 ^ d) l) (append-bytes (children-bytes 16 v seed) (ih (2 * v + 1) (left hash salt e v seed) h))
+      go (no l) ih =
+          rw (le-ltb h (2 ^ d) (omega arith))
+          (append-bytes (children-bytes 0 v seed) (ih (2 * v + 2) (right hash salt e v seed) (h - 2 ^ d)))
 
   -- the leaves shown, where leaf h is in the left half and where it is in the right
   module _ (d v : ℕ) (seed : List ℕ) (h : ℕ) where

@@ -6,9 +6,9 @@ use borrow.Author.Tests.{eq-eqb, lt-ltb}
 use lib.ListN.{length, getD, length-append}
 use lib.Seq.{drop-at}
 use Rattle.slices.specs.Lists.{rows, row}
-use Rattle.slices.specs.Bytes.{Sized}
+use Rattle.slices.specs.Bytes.{Bytes, Sized, append-bytes, rows-bytes}
 use Rattle.slices.specs.Tab.{length-rows, row-of-rows}
-use Rattle.slices.specs.Layout.{total, layout, HasSizes, length-layout, field-layout-append}
+use Rattle.slices.specs.Layout.{total, layout, HasSizes, length-layout, layout-bytes, field-layout-append}
 use Rattle.poly.specs.Sum.{sum}
 use Rattle.banquet.specs.declared.Shape.{Shape}
 use Rattle.banquet.specs.declared.Answer.the-variants.{Accepted}
@@ -125,6 +125,20 @@ module _ (𝓢 : Scheme) (L : Laws 𝓢) (key publicKey message salt seeds : Lis
       length-append (layout head) (rows frame executions)
       ∙ ap₂ _+_ (length-layout (headSizes (𝓢 .shape)) head head-sizes)
       (length-rows (total (frameSizes (𝓢 .shape))) frame executions (λ e l. one.frame-size 𝓢 L key publicKey message salt seeds input e))
+
+  h1-bytes : Bytes h1
+  unfolding signerH1 firstHash
+  h1-bytes = L .hash-sized _ 32 .bytes
+
+  h3-bytes : Bytes h3
+  unfolding signerH3 thirdHash
+  h3-bytes = L .hash-sized _ 32 .bytes
+
+  pub signature-bytes : Bytes salt → Bytes s
+  unfolding signature
+  signature-bytes sb =
+      append-bytes (layout-bytes head (sb, (h1-bytes, (h3-bytes, tt))))
+      (rows-bytes frame executions (λ e l. one.frame-bytes 𝓢 L key publicKey message salt seeds input e))
 
   frames-are : (e : ℕ) → e < executions → frameOf 𝓢 s e ≡ frame e
   unfolding frameOf signature

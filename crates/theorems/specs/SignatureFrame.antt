@@ -7,18 +7,20 @@ use native.Mathlib.Nat.{mod-eq-of-lt}
 use native.Mathlib.Omega.{arith}
 use lib.ListN.{length, getD}
 use Rattle.slices.specs.Lists.{row}
-use Rattle.slices.specs.Bytes.{Sized}
+use Rattle.slices.specs.Bytes.{Bytes, Sized}
 use Rattle.slices.specs.Numbers.{
   number,
   bytesOf,
   numberAt,
   numbers,
   length-bytesOf,
+  bytesOf-bytes,
   number-bytesOf,
   length-numbers,
+  numbers-bytes,
   numberAt-numbers-lt,
 }
-use Rattle.slices.specs.Layout.{total, HasSizes, length-layout, field-layout}
+use Rattle.slices.specs.Layout.{total, HasSizes, length-layout, field-layout, layout-bytes}
 use Rattle.poly.specs.Index.{at, at-cases}
 use Rattle.poly.specs.Sum.{sum, sum-cong, elem-sum}
 use Rattle.banquet.specs.declared.Shape.{Shape}
@@ -63,7 +65,7 @@ use Rattle.theorems.specs.Inputs.{SignInput}
 use Rattle.theorems.specs.Keys.{sized-front}
 use Rattle.theorems.specs.Wide.{wide-field}
 use Rattle.theorems.specs.Shares.{IsTape, hashed-tape, Fits, sized-outputShare}
-use Rattle.theorems.specs.Seeds.{length-siblingSeeds, shown-siblings}
+use Rattle.theorems.specs.Seeds.{length-siblingSeeds, siblingSeeds-bytes, shown-siblings}
 use Rattle.theorems.specs.Opened.{WideChallenge, wide-C, wide-A, wide-B}
 use Rattle.theorems.specs.Honest.{honest-fits, honest-outputs, honest-product, honest-wide}
 use Rattle.theorems.specs.Recomputed.{
@@ -169,6 +171,27 @@ module _ (𝓢 : Scheme) (L : Laws 𝓢) (key publicKey message salt seeds : Lis
     pub frame-size : length (frame e) ≡ total (frameSizes (𝓢 .shape))
     unfolding signerFrame
     frame-size = length-layout (frameSizes (𝓢 .shape)) fields sizes
+
+    commitment-bytes : (i : ℕ) (s : List ℕ) → Bytes (commitment 𝓢 salt e i s)
+    unfolding commitment
+    commitment-bytes i s = L .hash-sized _ 32 .bytes
+
+    pub frame-bytes : Bytes (frame e)
+    unfolding signerFrame signerOffsets productOffsets
+    frame-bytes =
+        layout-bytes fields (
+          siblingSeeds-bytes (𝓢 .hash) (L .hash-sized) salt e depth 0 _ hidden,
+          (
+            commitment-bytes hidden _,
+            (
+              fits .fits-key .bytes,
+              (
+                fits .fits-inverses .bytes,
+                (numbers-bytes wide (suc m2) _, (bytesOf-bytes wide C, (numbers-bytes wide m1 A, (numbers-bytes wide m1 B, tt)))),
+              ),
+            ),
+          ),
+        )
 
     pub is : (k : ℕ) → framePart 𝓢 (frame e) k ≡ getD fields k []
     unfolding signerFrame

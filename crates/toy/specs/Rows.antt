@@ -1,4 +1,5 @@
 -- Written by vectors/toy.py: what the definitions are asked for, and what they ought to give.
+use mathlib.Core.Bool.{true}
 use mathlib.Core.List.{List, [], _∷_, _++_, map}
 use Prim.Native.Nat.{ℕ}
 use lib.ListN.{getD, take, drop, replicate}
@@ -21,8 +22,8 @@ use Rattle.banquet.specs.Calls.{
   verifyOpeningAnswer,
   verifyOpening,
 }
-use Rattle.banquet.specs.Card.{hasLength, cardAnswer, printed}
-use Rattle.toy.specs.Toy.{toy, rowsToy, wideToy, Row, answers, insert, remove, openingChecked, signatureChecked}
+use Rattle.banquet.specs.Card.{hasSize, cardText, printed}
+use Rattle.toy.specs.Toy.{toy, rowsToy, wideToy, Row, answers, insert, remove, openingChecked, signatureChecked, cardChecked}
 
 abbrev pub key : List ℕ
 key = 50 ∷ 51 ∷ 52 ∷ 53 ∷ 54 ∷ 55 ∷ 56 ∷ 57 ∷ 58 ∷ 59 ∷ 60 ∷ 61 ∷ 62 ∷ 63 ∷ 64 ∷ 65 ∷ []
@@ -238,53 +239,53 @@ signatures =
 abbrev pub cards : List (Row Verdict)
 cards =
     -- as it should be; nothing; no message; another c in the last frame
-    (verdictOf (cardAnswer toy card), verdict 0 0)
-    ∷ (verdictOf (cardAnswer toy []), verdict 18 1)
-    ∷ (verdictOf (cardAnswer toy (remove 43 6 card)), verdict 16 0)
-    ∷ (verdictOf (cardAnswer toy (put card 582 (48 ∷ []))), verdict 15 1)
+    (verdictOf (cardChecked toy card), verdict 0 0)
+    ∷ (verdictOf (cardChecked toy []), verdict 18 1)
+    ∷ (verdictOf (cardChecked toy (remove 43 6 card)), verdict 16 0)
+    ∷ (verdictOf (cardChecked toy (put card 582 (48 ∷ []))), verdict 15 1)
     -- ends behind a line
-    ∷ (verdictOf (cardAnswer toy (take 43 card)), verdict 18 2)
-    ∷ (verdictOf (cardAnswer toy (take 50 card)), verdict 18 3)
-    ∷ (verdictOf (cardAnswer toy (take 243 card)), verdict 18 4)
-    ∷ (verdictOf (cardAnswer toy (take 416 card)), verdict 18 5)
+    ∷ (verdictOf (cardChecked toy (take 43 card)), verdict 18 2)
+    ∷ (verdictOf (cardChecked toy (take 50 card)), verdict 18 3)
+    ∷ (verdictOf (cardChecked toy (take 243 card)), verdict 18 4)
+    ∷ (verdictOf (cardChecked toy (take 416 card)), verdict 18 5)
     -- ends before a line's end
-    ∷ (verdictOf (cardAnswer toy (take 42 card)), verdict 18 1)
-    ∷ (verdictOf (cardAnswer toy (take 49 card)), verdict 18 2)
-    ∷ (verdictOf (cardAnswer toy (take 242 card)), verdict 18 3)
-    ∷ (verdictOf (cardAnswer toy (take 415 card)), verdict 18 4)
-    ∷ (verdictOf (cardAnswer toy (take 588 card)), verdict 18 5)
+    ∷ (verdictOf (cardChecked toy (take 42 card)), verdict 18 1)
+    ∷ (verdictOf (cardChecked toy (take 49 card)), verdict 18 2)
+    ∷ (verdictOf (cardChecked toy (take 242 card)), verdict 18 3)
+    ∷ (verdictOf (cardChecked toy (take 415 card)), verdict 18 4)
+    ∷ (verdictOf (cardChecked toy (take 588 card)), verdict 18 5)
     -- a line with two digits less, with two more
-    ∷ (verdictOf (cardAnswer toy (remove 40 2 card)), verdict 18 1)
-    ∷ (verdictOf (cardAnswer toy (remove 240 2 card)), verdict 18 3)
-    ∷ (verdictOf (cardAnswer toy (remove 413 2 card)), verdict 18 4)
-    ∷ (verdictOf (cardAnswer toy (remove 586 2 card)), verdict 18 5)
-    ∷ (verdictOf (cardAnswer toy (insert 42 (48 ∷ 48 ∷ []) card)), verdict 18 1)
-    ∷ (verdictOf (cardAnswer toy (insert 242 (48 ∷ 48 ∷ []) card)), verdict 18 3)
-    ∷ (verdictOf (cardAnswer toy (insert 415 (48 ∷ 48 ∷ []) card)), verdict 18 4)
-    ∷ (verdictOf (cardAnswer toy (insert 588 (48 ∷ 48 ∷ []) card)), verdict 18 5)
+    ∷ (verdictOf (cardChecked toy (remove 40 2 card)), verdict 18 1)
+    ∷ (verdictOf (cardChecked toy (remove 240 2 card)), verdict 18 3)
+    ∷ (verdictOf (cardChecked toy (remove 413 2 card)), verdict 18 4)
+    ∷ (verdictOf (cardChecked toy (remove 586 2 card)), verdict 18 5)
+    ∷ (verdictOf (cardChecked toy (insert 42 (48 ∷ 48 ∷ []) card)), verdict 18 1)
+    ∷ (verdictOf (cardChecked toy (insert 242 (48 ∷ 48 ∷ []) card)), verdict 18 3)
+    ∷ (verdictOf (cardChecked toy (insert 415 (48 ∷ 48 ∷ []) card)), verdict 18 4)
+    ∷ (verdictOf (cardChecked toy (insert 588 (48 ∷ 48 ∷ []) card)), verdict 18 5)
     -- a digit less in the message; a capital digit in each line; the end of a line doubled
-    ∷ (verdictOf (cardAnswer toy (remove 48 1 card)), verdict 18 2)
-    ∷ (verdictOf (cardAnswer toy (put card 41 (65 ∷ []))), verdict 18 1)
-    ∷ (verdictOf (cardAnswer toy (put card 48 (65 ∷ []))), verdict 18 2)
-    ∷ (verdictOf (cardAnswer toy (put card 241 (65 ∷ []))), verdict 18 3)
-    ∷ (verdictOf (cardAnswer toy (put card 414 (65 ∷ []))), verdict 18 4)
-    ∷ (verdictOf (cardAnswer toy (put card 587 (65 ∷ []))), verdict 18 5)
-    ∷ (verdictOf (cardAnswer toy (insert 43 (10 ∷ []) card)), verdict 18 3)
-    ∷ (verdictOf (cardAnswer toy (insert 243 (10 ∷ []) card)), verdict 18 4)
+    ∷ (verdictOf (cardChecked toy (remove 48 1 card)), verdict 18 2)
+    ∷ (verdictOf (cardChecked toy (put card 41 (65 ∷ []))), verdict 18 1)
+    ∷ (verdictOf (cardChecked toy (put card 48 (65 ∷ []))), verdict 18 2)
+    ∷ (verdictOf (cardChecked toy (put card 241 (65 ∷ []))), verdict 18 3)
+    ∷ (verdictOf (cardChecked toy (put card 414 (65 ∷ []))), verdict 18 4)
+    ∷ (verdictOf (cardChecked toy (put card 587 (65 ∷ []))), verdict 18 5)
+    ∷ (verdictOf (cardChecked toy (insert 43 (10 ∷ []) card)), verdict 18 3)
+    ∷ (verdictOf (cardChecked toy (insert 243 (10 ∷ []) card)), verdict 18 4)
     -- the bytes beside the digits: / : ` g; a blank; 0x0D before 0x0A
-    ∷ (verdictOf (cardAnswer toy (put card 0 (47 ∷ []))), verdict 18 1)
-    ∷ (verdictOf (cardAnswer toy (put card 0 (58 ∷ []))), verdict 18 1)
-    ∷ (verdictOf (cardAnswer toy (put card 0 (96 ∷ []))), verdict 18 1)
-    ∷ (verdictOf (cardAnswer toy (put card 0 (103 ∷ []))), verdict 18 1)
-    ∷ (verdictOf (cardAnswer toy (put card 0 (32 ∷ []))), verdict 18 1)
-    ∷ (verdictOf (cardAnswer toy (insert 242 (13 ∷ []) card)), verdict 18 3)
+    ∷ (verdictOf (cardChecked toy (put card 0 (47 ∷ []))), verdict 18 1)
+    ∷ (verdictOf (cardChecked toy (put card 0 (58 ∷ []))), verdict 18 1)
+    ∷ (verdictOf (cardChecked toy (put card 0 (96 ∷ []))), verdict 18 1)
+    ∷ (verdictOf (cardChecked toy (put card 0 (103 ∷ []))), verdict 18 1)
+    ∷ (verdictOf (cardChecked toy (put card 0 (32 ∷ []))), verdict 18 1)
+    ∷ (verdictOf (cardChecked toy (insert 242 (13 ∷ []) card)), verdict 18 3)
     -- bytes behind the last line: a line end, a blank, a frame; behind a forged card
-    ∷ (verdictOf (cardAnswer toy (card ++ (10 ∷ []))), verdict 18 6)
-    ∷ (verdictOf (cardAnswer toy (card ++ (32 ∷ []))), verdict 18 6)
-    ∷ (verdictOf (cardAnswer toy (card ++ (drop 416 card))), verdict 18 6)
-    ∷ (verdictOf (cardAnswer toy ((put card 0 (48 ∷ [])) ++ (10 ∷ []))), verdict 18 6)
+    ∷ (verdictOf (cardChecked toy (card ++ (10 ∷ []))), verdict 18 6)
+    ∷ (verdictOf (cardChecked toy (card ++ (32 ∷ []))), verdict 18 6)
+    ∷ (verdictOf (cardChecked toy (card ++ (drop 416 card))), verdict 18 6)
+    ∷ (verdictOf (cardChecked toy ((put card 0 (48 ∷ [])) ++ (10 ∷ []))), verdict 18 6)
     -- two bad lines
-    ∷ (verdictOf (cardAnswer toy (put (put card 416 (120 ∷ [])) 50 (120 ∷ []))), verdict 18 3)
+    ∷ (verdictOf (cardChecked toy (put (put card 416 (120 ∷ [])) 50 (120 ∷ []))), verdict 18 3)
     ∷ []
 
 -- ---- what is printed; frames; two rows of S-boxes
@@ -292,11 +293,11 @@ cards =
 abbrev pub texts : List (Row (List ℕ))
 texts =
     -- how many digits a message may have
-    (choose (hasLength toy 2 0) (1 ∷ []) (0 ∷ []), 1 ∷ [])
-    ∷ (choose (hasLength toy 2 1) (1 ∷ []) (0 ∷ []), 0 ∷ [])
-    ∷ (choose (hasLength toy 2 65536) (1 ∷ []) (0 ∷ []), 1 ∷ [])
-    ∷ (choose (hasLength toy 2 65537) (1 ∷ []) (0 ∷ []), 0 ∷ [])
-    ∷ (choose (hasLength toy 2 65538) (1 ∷ []) (0 ∷ []), 0 ∷ [])
+    (choose (hasSize true 32768 0) (1 ∷ []) (0 ∷ []), 1 ∷ [])
+    ∷ (choose (hasSize true 32768 1) (1 ∷ []) (0 ∷ []), 0 ∷ [])
+    ∷ (choose (hasSize true 32768 65536) (1 ∷ []) (0 ∷ []), 1 ∷ [])
+    ∷ (choose (hasSize true 32768 65537) (1 ∷ []) (0 ∷ []), 0 ∷ [])
+    ∷ (choose (hasSize true 32768 65538) (1 ∷ []) (0 ∷ []), 0 ∷ [])
     -- what is printed
     ∷ (printed (verdict 0 0), 97 ∷ 99 ∷ 99 ∷ 101 ∷ 112 ∷ 116 ∷ 101 ∷ 100 ∷ 10 ∷ [])
     ∷ (printed (verdict 18 1), 114 ∷ 101 ∷ 102 ∷ 117 ∷ 115 ∷ 101 ∷ 100 ∷ 32 ∷ 49 ∷ 56 ∷ 32 ∷ 49 ∷ 10 ∷ [])
@@ -308,7 +309,9 @@ texts =
     ∷ (printed (verdict 18 45), 114 ∷ 101 ∷ 102 ∷ 117 ∷ 115 ∷ 101 ∷ 100 ∷ 32 ∷ 49 ∷ 56 ∷ 32 ∷ 52 ∷ 53 ∷ 10 ∷ [])
     ∷ (printed (verdict 10 100), 114 ∷ 101 ∷ 102 ∷ 117 ∷ 115 ∷ 101 ∷ 100 ∷ 32 ∷ 49 ∷ 48 ∷ 32 ∷ 49 ∷ 48 ∷ 48 ∷ 10 ∷ [])
     -- for no text
-    ∷ (printed (verdictOf (cardAnswer toy [])), 114 ∷ 101 ∷ 102 ∷ 117 ∷ 115 ∷ 101 ∷ 100 ∷ 32 ∷ 49 ∷ 56 ∷ 32 ∷ 49 ∷ 10 ∷ [])
+    ∷ (printed (verdictOf (cardChecked toy [])), 114 ∷ 101 ∷ 102 ∷ 117 ∷ 115 ∷ 101 ∷ 100 ∷ 32 ∷ 49 ∷ 56 ∷ 32 ∷ 49 ∷ 10 ∷ [])
+    -- a card's text
+    ∷ (cardText toy publicKey message signatureFile, 54 ∷ 52 ∷ 54 ∷ 53 ∷ 54 ∷ 54 ∷ 54 ∷ 55 ∷ 54 ∷ 56 ∷ 98 ∷ 53 ∷ 53 ∷ 48 ∷ 51 ∷ 52 ∷ 51 ∷ 53 ∷ 51 ∷ 54 ∷ 51 ∷ 55 ∷ 51 ∷ 56 ∷ 51 ∷ 57 ∷ 51 ∷ 97 ∷ 51 ∷ 98 ∷ 51 ∷ 99 ∷ 51 ∷ 100 ∷ 51 ∷ 101 ∷ 51 ∷ 102 ∷ 52 ∷ 48 ∷ 52 ∷ 49 ∷ 10 ∷ 54 ∷ 49 ∷ 54 ∷ 50 ∷ 54 ∷ 51 ∷ 10 ∷ 99 ∷ 56 ∷ 99 ∷ 57 ∷ 99 ∷ 97 ∷ 99 ∷ 98 ∷ 99 ∷ 99 ∷ 99 ∷ 100 ∷ 99 ∷ 101 ∷ 99 ∷ 102 ∷ 100 ∷ 48 ∷ 100 ∷ 49 ∷ 100 ∷ 50 ∷ 100 ∷ 51 ∷ 100 ∷ 52 ∷ 100 ∷ 53 ∷ 100 ∷ 54 ∷ 100 ∷ 55 ∷ 100 ∷ 56 ∷ 100 ∷ 57 ∷ 100 ∷ 97 ∷ 100 ∷ 98 ∷ 100 ∷ 99 ∷ 100 ∷ 100 ∷ 100 ∷ 101 ∷ 100 ∷ 102 ∷ 101 ∷ 48 ∷ 101 ∷ 49 ∷ 101 ∷ 50 ∷ 101 ∷ 51 ∷ 101 ∷ 52 ∷ 101 ∷ 53 ∷ 101 ∷ 54 ∷ 101 ∷ 55 ∷ 98 ∷ 51 ∷ 100 ∷ 53 ∷ 98 ∷ 100 ∷ 102 ∷ 48 ∷ 98 ∷ 56 ∷ 102 ∷ 98 ∷ 50 ∷ 52 ∷ 56 ∷ 98 ∷ 98 ∷ 52 ∷ 49 ∷ 56 ∷ 99 ∷ 52 ∷ 48 ∷ 52 ∷ 52 ∷ 55 ∷ 56 ∷ 57 ∷ 57 ∷ 48 ∷ 55 ∷ 50 ∷ 97 ∷ 55 ∷ 50 ∷ 51 ∷ 97 ∷ 51 ∷ 55 ∷ 48 ∷ 98 ∷ 99 ∷ 102 ∷ 54 ∷ 101 ∷ 99 ∷ 102 ∷ 99 ∷ 54 ∷ 102 ∷ 97 ∷ 55 ∷ 52 ∷ 100 ∷ 57 ∷ 50 ∷ 101 ∷ 53 ∷ 99 ∷ 57 ∷ 102 ∷ 98 ∷ 97 ∷ 99 ∷ 97 ∷ 52 ∷ 54 ∷ 99 ∷ 98 ∷ 49 ∷ 48 ∷ 50 ∷ 55 ∷ 50 ∷ 98 ∷ 98 ∷ 52 ∷ 54 ∷ 51 ∷ 48 ∷ 100 ∷ 98 ∷ 101 ∷ 102 ∷ 50 ∷ 57 ∷ 54 ∷ 54 ∷ 99 ∷ 48 ∷ 53 ∷ 55 ∷ 102 ∷ 102 ∷ 48 ∷ 53 ∷ 100 ∷ 54 ∷ 57 ∷ 101 ∷ 101 ∷ 48 ∷ 53 ∷ 49 ∷ 51 ∷ 56 ∷ 57 ∷ 53 ∷ 98 ∷ 54 ∷ 100 ∷ 101 ∷ 101 ∷ 51 ∷ 101 ∷ 52 ∷ 51 ∷ 57 ∷ 98 ∷ 57 ∷ 101 ∷ 54 ∷ 101 ∷ 102 ∷ 98 ∷ 57 ∷ 50 ∷ 54 ∷ 10 ∷ 98 ∷ 100 ∷ 98 ∷ 97 ∷ 102 ∷ 52 ∷ 55 ∷ 99 ∷ 55 ∷ 100 ∷ 99 ∷ 100 ∷ 57 ∷ 55 ∷ 54 ∷ 51 ∷ 50 ∷ 101 ∷ 101 ∷ 99 ∷ 102 ∷ 51 ∷ 53 ∷ 57 ∷ 48 ∷ 50 ∷ 54 ∷ 54 ∷ 98 ∷ 49 ∷ 48 ∷ 99 ∷ 48 ∷ 99 ∷ 52 ∷ 52 ∷ 98 ∷ 98 ∷ 54 ∷ 102 ∷ 98 ∷ 48 ∷ 101 ∷ 54 ∷ 101 ∷ 99 ∷ 99 ∷ 51 ∷ 55 ∷ 98 ∷ 98 ∷ 49 ∷ 48 ∷ 49 ∷ 49 ∷ 48 ∷ 51 ∷ 52 ∷ 49 ∷ 48 ∷ 48 ∷ 102 ∷ 100 ∷ 53 ∷ 100 ∷ 48 ∷ 100 ∷ 100 ∷ 99 ∷ 100 ∷ 50 ∷ 100 ∷ 55 ∷ 98 ∷ 99 ∷ 97 ∷ 54 ∷ 48 ∷ 57 ∷ 53 ∷ 97 ∷ 57 ∷ 54 ∷ 48 ∷ 51 ∷ 56 ∷ 99 ∷ 48 ∷ 101 ∷ 54 ∷ 54 ∷ 100 ∷ 52 ∷ 97 ∷ 99 ∷ 56 ∷ 97 ∷ 55 ∷ 54 ∷ 99 ∷ 57 ∷ 50 ∷ 48 ∷ 57 ∷ 52 ∷ 56 ∷ 54 ∷ 99 ∷ 102 ∷ 57 ∷ 49 ∷ 101 ∷ 102 ∷ 57 ∷ 99 ∷ 54 ∷ 99 ∷ 49 ∷ 48 ∷ 53 ∷ 53 ∷ 57 ∷ 49 ∷ 54 ∷ 100 ∷ 56 ∷ 98 ∷ 101 ∷ 97 ∷ 97 ∷ 49 ∷ 100 ∷ 99 ∷ 56 ∷ 52 ∷ 51 ∷ 51 ∷ 48 ∷ 51 ∷ 53 ∷ 100 ∷ 56 ∷ 100 ∷ 101 ∷ 101 ∷ 54 ∷ 56 ∷ 57 ∷ 55 ∷ 97 ∷ 97 ∷ 52 ∷ 99 ∷ 97 ∷ 48 ∷ 98 ∷ 57 ∷ 57 ∷ 99 ∷ 54 ∷ 102 ∷ 51 ∷ 48 ∷ 99 ∷ 99 ∷ 48 ∷ 99 ∷ 55 ∷ 50 ∷ 100 ∷ 49 ∷ 49 ∷ 10 ∷ 56 ∷ 57 ∷ 101 ∷ 50 ∷ 53 ∷ 98 ∷ 97 ∷ 52 ∷ 97 ∷ 52 ∷ 49 ∷ 53 ∷ 101 ∷ 52 ∷ 57 ∷ 98 ∷ 55 ∷ 56 ∷ 97 ∷ 97 ∷ 102 ∷ 99 ∷ 51 ∷ 51 ∷ 49 ∷ 48 ∷ 53 ∷ 55 ∷ 57 ∷ 97 ∷ 57 ∷ 57 ∷ 50 ∷ 51 ∷ 55 ∷ 53 ∷ 50 ∷ 101 ∷ 98 ∷ 51 ∷ 53 ∷ 54 ∷ 98 ∷ 51 ∷ 99 ∷ 97 ∷ 97 ∷ 101 ∷ 56 ∷ 49 ∷ 50 ∷ 52 ∷ 50 ∷ 100 ∷ 51 ∷ 55 ∷ 98 ∷ 57 ∷ 100 ∷ 101 ∷ 52 ∷ 98 ∷ 53 ∷ 97 ∷ 51 ∷ 100 ∷ 57 ∷ 101 ∷ 57 ∷ 49 ∷ 56 ∷ 48 ∷ 55 ∷ 99 ∷ 49 ∷ 101 ∷ 56 ∷ 48 ∷ 48 ∷ 51 ∷ 98 ∷ 102 ∷ 49 ∷ 50 ∷ 51 ∷ 54 ∷ 48 ∷ 49 ∷ 101 ∷ 48 ∷ 51 ∷ 52 ∷ 56 ∷ 97 ∷ 54 ∷ 101 ∷ 53 ∷ 56 ∷ 57 ∷ 54 ∷ 102 ∷ 49 ∷ 54 ∷ 100 ∷ 99 ∷ 99 ∷ 99 ∷ 99 ∷ 99 ∷ 57 ∷ 54 ∷ 57 ∷ 100 ∷ 56 ∷ 54 ∷ 55 ∷ 53 ∷ 48 ∷ 102 ∷ 50 ∷ 51 ∷ 49 ∷ 99 ∷ 49 ∷ 100 ∷ 99 ∷ 98 ∷ 49 ∷ 98 ∷ 49 ∷ 98 ∷ 52 ∷ 56 ∷ 52 ∷ 48 ∷ 98 ∷ 57 ∷ 57 ∷ 102 ∷ 48 ∷ 97 ∷ 57 ∷ 100 ∷ 55 ∷ 52 ∷ 99 ∷ 51 ∷ 51 ∷ 102 ∷ 54 ∷ 55 ∷ 56 ∷ 50 ∷ 49 ∷ 49 ∷ 52 ∷ 97 ∷ 56 ∷ 100 ∷ 52 ∷ 100 ∷ 100 ∷ 99 ∷ 48 ∷ 55 ∷ 57 ∷ 100 ∷ 54 ∷ 102 ∷ 50 ∷ 99 ∷ 99 ∷ 10 ∷ [])
     -- frames of a signature: both, the next, one of a file that is too short
     ∷ (frameOf toy signatureFile 0, 189 ∷ 186 ∷ 244 ∷ 124 ∷ 125 ∷ 205 ∷ 151 ∷ 99 ∷ 46 ∷ 236 ∷ 243 ∷ 89 ∷ 2 ∷ 102 ∷ 177 ∷ 12 ∷ 12 ∷ 68 ∷ 187 ∷ 111 ∷ 176 ∷ 230 ∷ 236 ∷ 195 ∷ 123 ∷ 177 ∷ 1 ∷ 16 ∷ 52 ∷ 16 ∷ 15 ∷ 213 ∷ 208 ∷ 221 ∷ 205 ∷ 45 ∷ 123 ∷ 202 ∷ 96 ∷ 149 ∷ 169 ∷ 96 ∷ 56 ∷ 192 ∷ 230 ∷ 109 ∷ 74 ∷ 200 ∷ 167 ∷ 108 ∷ 146 ∷ 9 ∷ 72 ∷ 108 ∷ 249 ∷ 30 ∷ 249 ∷ 198 ∷ 193 ∷ 5 ∷ 89 ∷ 22 ∷ 216 ∷ 190 ∷ 170 ∷ 29 ∷ 200 ∷ 67 ∷ 48 ∷ 53 ∷ 216 ∷ 222 ∷ 230 ∷ 137 ∷ 122 ∷ 164 ∷ 202 ∷ 11 ∷ 153 ∷ 198 ∷ 243 ∷ 12 ∷ 192 ∷ 199 ∷ 45 ∷ 17 ∷ [])
     ∷ (frameOf toy signatureFile 1, 137 ∷ 226 ∷ 91 ∷ 164 ∷ 164 ∷ 21 ∷ 228 ∷ 155 ∷ 120 ∷ 170 ∷ 252 ∷ 51 ∷ 16 ∷ 87 ∷ 154 ∷ 153 ∷ 35 ∷ 117 ∷ 46 ∷ 179 ∷ 86 ∷ 179 ∷ 202 ∷ 174 ∷ 129 ∷ 36 ∷ 45 ∷ 55 ∷ 185 ∷ 222 ∷ 75 ∷ 90 ∷ 61 ∷ 158 ∷ 145 ∷ 128 ∷ 124 ∷ 30 ∷ 128 ∷ 3 ∷ 191 ∷ 18 ∷ 54 ∷ 1 ∷ 224 ∷ 52 ∷ 138 ∷ 110 ∷ 88 ∷ 150 ∷ 241 ∷ 109 ∷ 204 ∷ 204 ∷ 201 ∷ 105 ∷ 216 ∷ 103 ∷ 80 ∷ 242 ∷ 49 ∷ 193 ∷ 220 ∷ 177 ∷ 177 ∷ 180 ∷ 132 ∷ 11 ∷ 153 ∷ 240 ∷ 169 ∷ 215 ∷ 76 ∷ 51 ∷ 246 ∷ 120 ∷ 33 ∷ 20 ∷ 168 ∷ 212 ∷ 221 ∷ 192 ∷ 121 ∷ 214 ∷ 242 ∷ 204 ∷ [])

@@ -5,7 +5,7 @@ use mathlib.Core.List.{List, [], _∷_, _++_, map}
 use Prim.Native.Nat.{ℕ, zero, suc, _+_, _*_, _/_, _%_}
 use lib.Bits.{bitXor}
 use lib.Dec.{eqb, leb}
-use lib.ListN.{length, take, drop}
+use lib.ListN.{length, take, drop, replicate}
 use Rattle.slices.specs.Lists.{zipXor}
 use Rattle.field.specs.Byte.{inverse8}
 use Rattle.circuit.specs.Circuit.{Share}
@@ -37,6 +37,7 @@ use Rattle.banquet.specs.Answer.{require}
 use Rattle.banquet.specs.Opening.{transcriptOf, hiddenOf, siblingsOf, checkOpening}
 use Rattle.banquet.specs.Signature.{headPart, frameOf, checkSignature}
 use Rattle.banquet.specs.Calls.{verifyAnswer, verifyOpeningAnswer}
+use Rattle.banquet.specs.Card.{verifyCardAnswer}
 
 -- ---- the hash: a state that every byte of the input changes, and then bytes of the states that follow
 
@@ -149,3 +150,6 @@ module _ (𝓢 : Scheme) (publicKey : List ℕ) where
         → eqb (length s) (signatureLength (𝓢 .shape)) ≡ true → verifyAnswer 𝓢 publicKey message s work ≡ signatureChecked message s
     unfolding verifyAnswer require
     signature-checked message s hm h = rw (hk, hm, h, hw)
+
+abbrev pub cardChecked : Scheme → List ℕ → Answer
+cardChecked 𝓢 text = verifyCardAnswer 𝓢 text (replicate workLength 0)

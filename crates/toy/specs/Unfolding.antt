@@ -45,16 +45,24 @@ use Rattle.banquet.specs.Signature.{
 }
 use Rattle.banquet.specs.Calls.{publicKeyAnswer, signAnswer, verifyAnswer, openAnswer, verifyOpeningAnswer}
 use Rattle.banquet.specs.Card.{
-  digitValue,
+  symbolOf,
+  isDigit,
+  valueOf,
   allDigits,
   decoded,
+  digitOf,
+  encoded,
   lineOf,
-  lineAt,
-  hasLength,
+  decodedLine,
+  decodedLines,
+  encodedLines,
+  hasSize,
   isLine,
   checkLines,
-  cardAnswer,
+  verifyCardAnswer,
+  cardText,
   decimalIn,
+  refusalLine,
   printed,
 }
 use Rattle.toy.specs.Toy.{absorbed, squeezed, toyHash, toyInputs, toyEncrypt, toyInputShares, toyOutputShare}
@@ -101,9 +109,13 @@ unfolding firstZero publicKeyOf checkInputs checkKey
 keys = tt
 
 unfoldable cards : Unit {0}
-unfolding digitValue allDigits decoded lineOf lineAt hasLength isLine checkLines cardAnswer decimalIn printed
+unfolding symbolOf isDigit valueOf allDigits decoded digitOf encoded lineOf decodedLine decodedLines encodedLines hasSize isLine checkLines
 cards = tt
 
+unfoldable cardTexts : Unit {0}
+unfolding cards verifyCardAnswer cardText decimalIn refusalLine printed
+cardTexts = tt
+
 unfoldable pub everything : Unit {0}
-unfolding lists fields toys hashes parties made checks answers keys cards
+unfolding lists fields toys hashes parties made checks answers keys cardTexts
 everything = tt

@@ -24,11 +24,18 @@ fn print(s: &[u8])
     write(s, &mut text[0..end]);
 }
 
+// The number of two decimal digits that were read as hexadecimal.
+fn decimal(byte: u8) -> usize {
+    (byte / 16 * 10 + byte % 16) as usize
+}
+
 // The number of two decimal digits, or the most where it is less.
 fn size(tens: u8, ones: u8, most: usize) -> usize
     ensures { λ r. ⌜ r ≤ most ⌝ }
 {
-    let n = (hex::digit(tens) % 16 * 10 + hex::digit(ones) % 16) as usize;
+    let mut byte = [0u8; 1];
+    hex::decode(&[tens, ones], &mut byte);
+    let n = decimal(byte[0]);
     if most < n {
         return most;
     }

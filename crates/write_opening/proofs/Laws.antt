@@ -1,26 +1,11 @@
--- A slice written part by part, each lent to a call. Assumes nothing.
-use mathlib.Core.Path.{_≡_, sym, ap, subst, _∙_}
+-- A slice written part by part. Assumes nothing.
+use mathlib.Core.Path.{_≡_, sym, ap, _∙_}
 use mathlib.Core.List.{List, [], _∷_, _++_, append-nil, append-assoc}
 use Prim.Native.Nat.{ℕ, suc, _+_, _-_, _≤_, _<_}
 use native.Mathlib.Omega.{arith}
-use lib.ListN.{length, take, drop, set, length-append, length-drop, length-set, drop-of-length-le}
+use lib.ListN.{length, take, drop, set, length-append, length-set, drop-of-length-le}
 use lib.Seq.{drop-at, set-split, length-take-le}
-use borrow.Rule.Slice.PartMut.{putMid, same-len-mid}
-use Rattle.slices.proofs.Put.{Wrote, front, wrote-more, wrote-all, put-mid}
-
--- ---- the first n elements are written, and the part up to m is lent
-
-pub lent-long : {d p l : List ℕ} {n : ℕ} (m : ℕ) → Wrote d p n l → m ≤ length d → length (take (m - n) (drop n l)) ≡ m - n
-lent-long {d} {p} {l} {n} m w h = length-take-le (m - n) (drop n l) (omega (arith, length-drop n l, w .long))
-
--- it comes back as y
-pub wrote-lent : (s : List ℕ) {d p l y : List ℕ} {n : ℕ} (m : ℕ) → Wrote d p n l → n ≤ m → m ≤ length d → y ≡ s
-    → length y ≡ length (take (m - n) (drop n l)) → Wrote d (p ++ s) m (putMid n (m - n) l y)
-wrote-lent s {d} {p} {l} {y} {n} m w k h e kept =
-    let long : length s ≡ m - n = ap length (sym e) ∙ kept ∙ lent-long m w h in
-    let end : n + (m - n) ≡ m = omega arith in
-    subst (λ (j : ℕ). Wrote d (p ++ s) j (putMid n (m - n) l y)) end
-    (wrote-more s w long (put-mid n (m - n) l y s e (sym long)) (same-len-mid n (m - n) l y kept))
+use Rattle.slices.proofs.Put.{Wrote, front, wrote-all}
 
 -- the next element was stored before
 pub wrote-stored : (x : ℕ) {d p l : List ℕ} {n : ℕ} → Wrote (set d n x) p n l → n < length d → Wrote d (p ++ (x ∷ [])) (suc n) l

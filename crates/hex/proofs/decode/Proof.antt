@@ -5,8 +5,7 @@ use native.Mathlib.Omega.{arith}
 use lib.ListN.{length}
 use borrow.Author.Needs.{needs}
 use Rattle.slices.proofs.Fill.{Filling, filling-none, filling-more, filling-all}
-use Rattle.hex.specs.Hex.{pair}
-use Rattle.hex.proofs.Laws.{pairAt, tab-pairs}
+use Rattle.hex.proofs.Laws.{pairAt, tab-decoded}
 use Rattle.hex.proofs.decode.Statement.{statement}
 use Rattle.hex.proofs.decode.Tie as tie
 
@@ -20,15 +19,14 @@ loop-holds : tie.Need-loop-holds Inv-loop μ-loop
 loop-holds c = (refl, filling-none refl)
 
 loop-again : tie.Need-loop-again Inv-loop μ-loop
-unfolding pair
 loop-again c =
     let inv = c .before .before .before .before .before .loop .inv .1 in
-    (refl, filling-more inv (omega arith) (rw (c .before .before .digit .ensures, c .digit2 .ensures)))
+    (refl, filling-more inv (omega arith) (rw (c .before .before .value .ensures .0, c .value2 .ensures .0)))
 
 returns : tie.Need-returns Inv-loop μ-loop
 returns c =
     let s = c .before .before .before .before in
-    filling-all (c .before .loop .inv .1) (omega arith) ∙ tab-pairs (length (s .args .out .now)) (s .args .text .now) (s .pre)
+    filling-all (c .before .loop .inv .1) (omega arith) ∙ tab-decoded (length (s .args .out .now)) (s .args .text .now) (s .pre)
 
 pub decode-spec : {M : Type 1} → statement M
 decode-spec =

@@ -1,13 +1,13 @@
 -- `hex::encode` meets its contract: the loop fills `out` with the digits. Assumes nothing.
 use mathlib.Core.Path.{_≡_, refl, ap, _∙_}
-use Prim.Native.Nat.{ℕ, _-_, _*_, _%_}
+use Prim.Native.Nat.{ℕ, _-_, _%_}
 use native.Mathlib.Omega.{arith}
 use lib.ListN.{length}
 use borrow.Author.Needs.{needs}
 use Rattle.slices.specs.Lists.{tab}
 use Rattle.slices.specs.Bytes.{bytes-of}
 use Rattle.slices.proofs.Fill.{Filling, filling-none, filling-more, filling-all}
-use Rattle.hex.specs.Hex.{digitOf}
+use Rattle.banquet.specs.Card.{digitOf}
 use Rattle.hex.proofs.Laws.{digitAt, tab-encoded}
 use Rattle.hex.proofs.encode.Statement.{statement}
 use Rattle.hex.proofs.encode.Tie as tie

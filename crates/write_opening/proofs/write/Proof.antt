@@ -5,9 +5,9 @@ use Prim.Native.Nat.{ℕ, _*_}
 use native.Mathlib.Omega.{arith}
 use lib.ListN.{length}
 use borrow.Author.Needs.{needs}
-use Rattle.slices.proofs.Put.{wrote-none}
+use Rattle.slices.proofs.Put.{wrote-none, lent-long}
 use Rattle.write_opening.specs.Written.{written}
-use Rattle.write_opening.proofs.Laws.{lent-long, wrote-whole, five}
+use Rattle.write_opening.proofs.Laws.{wrote-whole, five}
 use Rattle.write_opening.proofs.write.Proof.Steps.{fit, start, S, out, stride-is, oa, ob, oc, od, at, p1, p2, p3, p4, p5}
 use Rattle.write_opening.proofs.write.Proof.Steps.{o1, o2, o3, o4, o5, w1, w2, w3, w4, w5}
 use Rattle.write_opening.proofs.write.Statement.{statement}

@@ -6,10 +6,10 @@ use native.Mathlib.Omega.{arith}
 use lib.ListN.{length, set, length-set}
 use borrow.Author.Needs.{needs}
 use borrow.Rule.Slice.PartMut.{putMid, same-len-mid}
-use Rattle.slices.proofs.Put.{Wrote, wrote-none}
+use Rattle.slices.proofs.Put.{Wrote, wrote-none, wrote-lent}
 use Rattle.banquet.specs.Hash.{commitment}
 use Rattle.party.specs.Party.{partyHash}
-use Rattle.write_opening.proofs.Laws.{wrote-lent, wrote-stored, wrote-whole}
+use Rattle.write_opening.proofs.Laws.{wrote-stored, wrote-whole}
 use Rattle.write_opening.proofs.write_head.Statement.{statement}
 use Rattle.write_opening.proofs.write_head.Tie as tie
 

@@ -7,10 +7,10 @@ use lib.ListN.{length}
 use borrow.Author.Needs.{needs}
 use borrow.Rule.Slice.PartMut.{putMid}
 use Rattle.slices.specs.Layout.{total}
-use Rattle.slices.proofs.Put.{Wrote, wrote-none}
+use Rattle.slices.proofs.Put.{Wrote, wrote-none, lent-long, wrote-lent}
 use Rattle.sets.specs.Bounds.{rowSizes, by-ten}
 use Rattle.columns.specs.Column.{columnOf}
-use Rattle.write_opening.proofs.Laws.{lent-long, wrote-lent, wrote-whole}
+use Rattle.write_opening.proofs.Laws.{wrote-whole}
 use Rattle.write_opening.proofs.write_opened.Statement.{statement}
 use Rattle.write_opening.proofs.write_opened.Tie as tie
 

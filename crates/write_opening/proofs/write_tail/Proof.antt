@@ -7,8 +7,8 @@ use lib.ListN.{length, set}
 use lib.Pow.{pow-mono}
 use borrow.Author.Needs.{needs}
 use borrow.Rule.Slice.PartMut.{same-len-mid}
-use Rattle.slices.proofs.Put.{Wrote, wrote-none}
-use Rattle.write_opening.proofs.Laws.{lent-long, wrote-lent, wrote-stored, wrote-whole}
+use Rattle.slices.proofs.Put.{Wrote, wrote-none, lent-long, wrote-lent}
+use Rattle.write_opening.proofs.Laws.{wrote-stored, wrote-whole}
 use Rattle.write_opening.proofs.write_tail.Statement.{statement}
 use Rattle.write_opening.proofs.write_tail.Tie as tie
 

@@ -6,14 +6,13 @@ use native.Mathlib.Omega.{arith}
 use lib.ListN.{length}
 use borrow.Rule.Slice.PartMut.{putMid}
 use Rattle.slices.specs.Layout.{total}
-use Rattle.slices.proofs.Put.{Wrote, wrote-none}
+use Rattle.slices.proofs.Put.{Wrote, wrote-none, wrote-lent}
 use Rattle.shake.specs.Shake128.{shake128}
 use Rattle.banquet.specs.declared.Shape.{Shape}
 use Rattle.banquet.specs.Tree.{siblingSeeds}
 use Rattle.sets.specs.Bounds.{rowSizes}
 use Rattle.columns.specs.Column.{columnOf}
 use Rattle.write_opening.specs.Written.{head, outputs, middle, opened}
-use Rattle.write_opening.proofs.Laws.{wrote-lent}
 use Rattle.write_opening.proofs.Places.{Places, places, sizes-fit}
 use Rattle.write_opening.proofs.write.Tie as tie
 

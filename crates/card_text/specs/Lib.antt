@@ -1,0 +1,2 @@
+-- A card as code meets it.
+pub mod Reading

@@ -1,0 +1,1 @@
+// Theorems on card text; specs/ has them.

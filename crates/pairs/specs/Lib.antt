@@ -1,0 +1,2 @@
+-- What is written for a line of key and plaintext.
+pub mod Pairs

@@ -1,0 +1,2 @@
+-- Answers that refuse.
+pub mod Refusal
