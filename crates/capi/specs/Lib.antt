@@ -1,0 +1,2 @@
+-- An answer as C is given it.
+pub mod Code
