@@ -54,6 +54,7 @@ decoded (a ∷ b ∷ s) = (16 * valueOf (symbolOf a) + valueOf (symbolOf b)) ∷
 unfoldable pub digitOf : ℕ → ℕ
 digitOf v = choose (ltb v 10) (0x30 + v) (0x61 + (v - 10))
 
+-- "lower-case hexadecimal": two digits a byte, the high one first
 unfoldable pub encoded : List ℕ → List ℕ
 encoded [] = []
 encoded (b ∷ s) = digitOf (b / 16) ∷ digitOf (b % 16) ∷ encoded s
@@ -131,7 +132,7 @@ module _ (𝓢 : Scheme) where
     abbrev pub verifyCard : Checked
     verifyCard = record { answer = verifyCardAnswer; work = workAfter verifyCardAnswer work }
 
-  -- the text of a card
+  -- the text of a card, each line with its end
   unfoldable pub cardText : List ℕ → List ℕ → List ℕ → List ℕ
   cardText publicKey message signature = encodedLines (cardSizes (length message)) (publicKey ++ (message ++ signature))
 

@@ -31,7 +31,7 @@ unfolding cardOutput printed
 card-accepted publicKey message s p m short h acc =
     ap (λ (a : Answer). printed (verdictOf a)) (card-read baseScheme publicKey message s p m short h (replicate workLength 0) ∙ acc)
 
--- "every seal made with a good key is accepted": the card that it makes with what was signed is one
+-- "every seal made with a good key is accepted": of the card of a message that `sign` signed the program prints `accepted`
 pub signed-card-accepted : (key publicKey message salt seeds output work : List ℕ) → Bytes key → Bytes publicKey → Bytes message → Bytes salt
     → sign baseScheme key publicKey message salt seeds output work .answer ≡ Accepted
     → cardOutput baseScheme (cardText baseScheme publicKey message (signature baseScheme key publicKey message salt seeds))
