@@ -5,7 +5,7 @@ use Prim.Native.Nat.{ℕ}
 use lib.ListN.{take, drop}
 use Rattle.slices.specs.Layout.{total}
 use Rattle.field.specs.Wide32.{low32, y32}
-use Rattle.field.specs.Wide48.{low48, y48}
+use Rattle.wide48.specs.Wide48.{low48, y48}
 use Rattle.shake.specs.Shake128.{shake128}
 use Rattle.aes.specs.Aes.{keyExpansion, aes, sboxInputs, evenMansour, evenMansourInputs}
 use Rattle.circuit.specs.Circuit.{inputShares, outputShare, evenMansourInputShares, evenMansourOutputShare}

@@ -1,18 +1,9 @@
 // The calls for C and Rust: a slice is a pointer and a length, and an answer is one number. include/banquet.h says it to a C programmer.
-use banquet::Answer;
 ghost use mathlib.Core.Path.{_≡_};
 ghost use Rattle.banquet.specs.Sets.{baseScheme};
 ghost use Rattle.banquet.specs.Calls.{makePublicKey, sign, verify, openExecution, verifyOpening};
 ghost use Rattle.banquet.specs.Card.{verifyCard};
-ghost use Rattle.capi.specs.Code.{codeOf};
-
-// "If an answer is an enum, a definition lists this paper's number and values for each of its cases": number * 65,536 + place.
-fn code(answer: Answer) -> u32
-    ensures { λ r. ⌜ r ≡ codeOf answer ⌝ }
-{
-    let verdict = verdict::verdict(answer);
-    verdict.number as u32 * 65536 + verdict.place as u32
-}
+ghost use Rattle.verdict.specs.Code.{codeOf};
 
 // Makes a public key.
 #[no_mangle]
@@ -20,7 +11,7 @@ pub extern "C" fn banquet_public_key(key: &[u8], plaintext: &[u8], out: &mut [u8
     ensures { λ r. ⌜ r ≡ codeOf (makePublicKey baseScheme (now (key .entry)) (now (plaintext .entry)) (now (out .entry)) .answer) ⌝ }
     ensures { λ _. ⌜ now (out .exit) ≡ makePublicKey baseScheme (now (key .entry)) (now (plaintext .entry)) (now (out .entry)) .output ⌝ }
 {
-    code(public_key::make_public_key(key, plaintext, out))
+    verdict::code(public_key::make_public_key(key, plaintext, out))
 }
 
 // Signs a message.
@@ -38,7 +29,7 @@ pub extern "C" fn banquet_sign(
     ensures { λ _. ⌜ now (out .exit) ≡ sign baseScheme (now (key .entry)) (now (public .entry)) (now (message .entry)) (now (salt .entry)) (now (seeds .entry)) (now (out .entry)) (now (work .entry)) .output ⌝ }
     ensures { λ _. ⌜ now (work .exit) ≡ sign baseScheme (now (key .entry)) (now (public .entry)) (now (message .entry)) (now (salt .entry)) (now (seeds .entry)) (now (out .entry)) (now (work .entry)) .work ⌝ }
 {
-    code(signatures::sign(key, public, message, salt, seeds, out, work))
+    verdict::code(signatures::sign(key, public, message, salt, seeds, out, work))
 }
 
 // Checks a signature.
@@ -52,7 +43,7 @@ pub extern "C" fn banquet_verify(
     ensures { λ r. ⌜ r ≡ codeOf (verify baseScheme (now (public .entry)) (now (message .entry)) (now (signature .entry)) (now (work .entry)) .answer) ⌝ }
     ensures { λ _. ⌜ now (work .exit) ≡ verify baseScheme (now (public .entry)) (now (message .entry)) (now (signature .entry)) (now (work .entry)) .work ⌝ }
 {
-    code(signatures::verify(public, message, signature, work))
+    verdict::code(signatures::verify(public, message, signature, work))
 }
 
 // Opens one execution under given challenges.
@@ -73,7 +64,7 @@ pub extern "C" fn banquet_open(
     ensures { λ _. ⌜ now (out .exit) ≡ openExecution baseScheme (now (key .entry)) (now (public .entry)) (now (salt .entry)) (now (seed .entry)) (now (first .entry)) execution second hidden (now (out .entry)) (now (work .entry)) .output ⌝ }
     ensures { λ _. ⌜ now (work .exit) ≡ openExecution baseScheme (now (key .entry)) (now (public .entry)) (now (salt .entry)) (now (seed .entry)) (now (first .entry)) execution second hidden (now (out .entry)) (now (work .entry)) .work ⌝ }
 {
-    code(openings::open(
+    verdict::code(openings::open(
         key,
         public,
         salt,
@@ -93,7 +84,7 @@ pub extern "C" fn banquet_verify_opening(public: &[u8], opening: &[u8], work: &m
     ensures { λ r. ⌜ r ≡ codeOf (verifyOpening baseScheme (now (public .entry)) (now (opening .entry)) (now (work .entry)) .answer) ⌝ }
     ensures { λ _. ⌜ now (work .exit) ≡ verifyOpening baseScheme (now (public .entry)) (now (opening .entry)) (now (work .entry)) .work ⌝ }
 {
-    code(openings::verify_opening(public, opening, work))
+    verdict::code(openings::verify_opening(public, opening, work))
 }
 
 // Checks a card given as text.
@@ -102,5 +93,5 @@ pub extern "C" fn banquet_verify_card(text: &[u8], work: &mut [u8]) -> u32
     ensures { λ r. ⌜ r ≡ codeOf (verifyCard baseScheme (now (text .entry)) (now (work .entry)) .answer) ⌝ }
     ensures { λ _. ⌜ now (work .exit) ≡ verifyCard baseScheme (now (text .entry)) (now (work .entry)) .work ⌝ }
 {
-    code(card_text::verify_card(text, work))
+    verdict::code(card_text::verify_card(text, work))
 }

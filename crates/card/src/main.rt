@@ -15,6 +15,6 @@ fn main() {
     let mut text = room();
     let n = io::read_full(STDIN_FILENO, &mut text);
     let mut line = [0u8; 30];
-    let end = card_text::print_card(&text[..n], &mut line);
+    let end = print_card::print_card(&text[..n], &mut line);
     io::write_all(STDOUT_FILENO, &line[..end]);
 }

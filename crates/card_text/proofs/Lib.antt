@@ -1,3 +1,2 @@
--- Laws that the proofs cite.
-pub mod Checked
-pub mod Laws
+-- The laws that the proof cites.
+mod Checked

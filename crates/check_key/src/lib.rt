@@ -19,7 +19,7 @@ pub fn check_key(shape: Shape, key: &[u8], public: &[u8], inputs: &mut [u8]) -> 
     if zero < 200 {
         return Answer::ZeroInput(zero as u8);
     }
-    if !slices::equal(&ciphertext, &public[16..32]) {
+    if !equal::equal(&ciphertext, &public[16..32]) {
         return Answer::WrongKey;
     }
     Answer::Accepted

@@ -19,7 +19,7 @@ use Rattle.banquet.specs.declared.Answer.the-variants.{Accepted, FirstHashDiffe
 use Rattle.banquet.specs.Sets.{aesScheme}
 use Rattle.banquet.specs.Answer.{require}
 use Rattle.banquet.specs.Hash.{firstHash, thirdHash}
-use Rattle.banquet.specs.Signature.{headPart, frameOf, recomputedH1, recomputedH3}
+use Rattle.banquet.specs.Signature.{headPart, frameOf, recomputedH1, recomputedH3, checkSignature}
 use Rattle.verify_answers.specs.Head.{salt-is, h1-is, h3-is}
 use Rattle.second_hash.proofs.Laws.{sized-second}
 use Rattle.check_signature.specs.Steps.{Files, h2Of, firstPart, thirdPart}
@@ -79,3 +79,21 @@ module _ {S : Shape} {publicKey message s : List ℕ} (f : Files S publicKey s) 
       (require (same (recomputedH3 (aesScheme S) publicKey message salt h1 h3 (frameOf (aesScheme S) s)) h3) ThirdHashDiffers Accepted)
   hashes-tested p q =
       ap₂ (λ (x y : Bool). require x FirstHashDiffers (require y ThirdHashDiffers Accepted)) (ap₂ same p (h1-is S s)) (ap₂ same q (h3-is S s))
+
+-- ---- the answer, where no product fails
+
+module _ (S : Shape) (publicKey message s : List ℕ) where
+  abbrev checked : Answer
+  checked =
+      checkSignature (aesScheme S) publicKey message (headPart (aesScheme S) 0 s) (headPart (aesScheme S) 1 s) (headPart (aesScheme S) 2 s)
+      (frameOf (aesScheme S) s)
+
+  abbrev compared : Answer
+  compared =
+      require (same (recomputedH1 (aesScheme S) publicKey message (headPart (aesScheme S) 0 s) (headPart (aesScheme S) 1 s) (headPart (aesScheme S) 2 s)
+      (frameOf (aesScheme S) s)) (headPart (aesScheme S) 1 s)) FirstHashDiffers
+      (require (same (recomputedH3 (aesScheme S) publicKey message (headPart (aesScheme S) 0 s) (headPart (aesScheme S) 1 s) (headPart (aesScheme S) 2 s)
+      (frameOf (aesScheme S) s)) (headPart (aesScheme S) 2 s)) ThirdHashDiffers Accepted)
+
+  pub products-right : {r : Answer} → r ≡ compared → checked ≡ compared → r ≡ checked
+  products-right e h = e ∙ sym h

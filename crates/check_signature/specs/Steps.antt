@@ -2,6 +2,7 @@
 use mathlib.Core.Path.{_≡_}
 use mathlib.Core.List.{List, _∷_}
 use Prim.Native.Nat.{ℕ, _*_}
+use lib.ListN.{take}
 use Rattle.slices.specs.Bytes.{Sized}
 use Rattle.shake.specs.Shake128.{shake128}
 use Rattle.banquet.specs.declared.Shape.{Shape}
@@ -31,11 +32,11 @@ module _ (S : Shape) (s : List ℕ) where
   abbrev pub h2Of : List ℕ
   h2Of = secondHash (aesScheme S) h1 (λ e. framePart (aesScheme S) (frameOf (aesScheme S) s e) 4)
 
-  -- "Every number drawn from 6, 7 or 8 ..": the bytes that are drawn for all executions
+  -- "Every number drawn from 6, 7 or 8 ..": the bytes that are drawn for all executions, at the front of what is given
   pub record Drawn (firsts seconds thirds : List ℕ) : Type 0 where
-    pub firsts-are : firsts ≡ shake128 (6 ∷ h1) (S .executions * firstChallengeLength S)
-    pub seconds-are : seconds ≡ shake128 (7 ∷ h2Of) (S .executions * S .wide)
-    pub thirds-are : thirds ≡ shake128 (8 ∷ h3) (S .executions * 4)
+    pub firsts-are : take (S .executions * firstChallengeLength S) firsts ≡ shake128 (6 ∷ h1) (S .executions * firstChallengeLength S)
+    pub seconds-are : take (S .executions * S .wide) seconds ≡ shake128 (7 ∷ h2Of) (S .executions * S .wide)
+    pub thirds-are : take (S .executions * 4) thirds ≡ shake128 (8 ∷ h3) (S .executions * 4)
 
   -- what h1 and h3 bind of execution e
   module _ (publicKey : List ℕ) where

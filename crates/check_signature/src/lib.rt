@@ -3,12 +3,11 @@ use banquet::Answer;
 use banquet::Shape;
 use frame_hashes::Hashes;
 ghost use mathlib.Core.Path.{_≡_};
-ghost use Prim.Native.Nat.{_-_, _*_, _<_, _≤_};
+ghost use Prim.Native.Nat.{_-_, _*_, _≤_};
 ghost use lib.ListN.{length, take, drop};
 ghost use Rattle.slices.specs.Lists.{rows as rowsOf, same};
 ghost use Rattle.slices.specs.Layout.{total};
 ghost use Rattle.stream.specs.Stream.{absorbed, finished, squeezed};
-ghost use Rattle.banquet.specs.Shape.{firstChallengeLength};
 ghost use Rattle.banquet.specs.declared.Answer.the-variants.{Accepted, FirstHashDiffers, ThirdHashDiffers};
 ghost use Rattle.banquet.specs.Sets.{aesScheme};
 ghost use Rattle.banquet.specs.Answer.{require};
@@ -19,43 +18,7 @@ ghost use Rattle.sets.specs.Bounds.{rowSizes};
 ghost use Rattle.scratch.specs.Scratch.{Scratch};
 ghost use Rattle.check_signature.specs.Steps.{Files, Drawn, h2Of, firstPart, thirdPart};
 
-// Execution e's parts of h1 and h3.
-fn absorb_execution(
-    shape: Shape,
-    public: &[u8],
-    s: &[u8],
-    e: usize,
-    firsts: &[u8],
-    seconds: &[u8],
-    thirds: &[u8],
-    hashes: Hashes,
-    commitments: &mut [u8],
-    rows: &mut [u8],
-) -> Hashes
-    requires { ⌜ Files shape (now public) (now s) × Drawn shape (now s) (now firsts) (now seconds) (now thirds) × (e < shape .executions)
-        × (length (now commitments) ≡ shape .parties * 32) × (length (now rows) ≡ shape .parties * total (rowSizes shape)) ⌝ }
-    ensures { λ r. ⌜ r .first ≡ absorbed (hashes .first) (firstPart shape (now (s .entry)) (now (public .entry)) e) ⌝ }
-    ensures { λ r. ⌜ r .third ≡ absorbed (hashes .third) (thirdPart shape (now (s .entry)) (now (public .entry)) e) ⌝ }
-{
-    let n = shape.m1 * shape.wide;
-    let a = e * n;
-    let b = a + n;
-    frame_hashes::absorb_frame(
-        shape,
-        public,
-        &s[0..32],
-        e as u8,
-        challenges::hidden(shape, thirds, e),
-        &firsts[a..b],
-        challenges::second(shape, seconds, e),
-        frames::frame(shape, s, e),
-        hashes,
-        commitments,
-        rows,
-    )
-}
-
-// Those of all executions, in one pass over the frames.
+// The parts of h1 and h3 of all executions, in one pass over the frames.
 fn absorb_executions(
     shape: Shape,
     public: &[u8],
@@ -72,17 +35,21 @@ fn absorb_executions(
     ensures { λ r. ⌜ r .first ≡ absorbed (start .first) (rowsOf (firstPart shape (now (s .entry)) (now (public .entry))) (shape .executions)) ⌝ }
     ensures { λ r. ⌜ r .third ≡ absorbed (start .third) (rowsOf (thirdPart shape (now (s .entry)) (now (public .entry))) (shape .executions)) ⌝ }
 {
-    let n = shape.executions;
+    let n = shape.m1 * shape.wide;
+    let count = shape.executions;
     let mut t = start;
-    for e in 0..n {
-        let u = absorb_execution(
+    for e in 0..count {
+        let a = e * n;
+        let b = a + n;
+        let u = frame_hashes::absorb_frame(
             shape,
             public,
-            s,
-            e,
-            firsts,
-            seconds,
-            thirds,
+            &s[0..32],
+            e as u8,
+            challenges::hidden(shape, thirds, e),
+            &firsts[a..b],
+            challenges::second(shape, seconds, e),
+            frames::frame(shape, s, e),
             t,
             commitments,
             rows,
@@ -93,42 +60,6 @@ fn absorb_executions(
 }
 
 // The same, the challenges being drawn.
-fn absorb_drawn(
-    shape: Shape,
-    public: &[u8],
-    s: &[u8],
-    h2: &[u8],
-    firsts: &mut [u8],
-    seconds: &mut [u8],
-    thirds: &mut [u8],
-    start: Hashes,
-    commitments: &mut [u8],
-    rows: &mut [u8],
-) -> Hashes
-    requires { ⌜ Files shape (now public) (now s) × (now h2 ≡ h2Of shape (now s))
-        × (length (now firsts) ≡ shape .executions * firstChallengeLength shape) × (length (now seconds) ≡ shape .executions * shape .wide)
-        × (length (now thirds) ≡ shape .executions * 4) × (length (now commitments) ≡ shape .parties * 32)
-        × (length (now rows) ≡ shape .parties * total (rowSizes shape)) ⌝ }
-    ensures { λ r. ⌜ r .first ≡ absorbed (start .first) (rowsOf (firstPart shape (now (s .entry)) (now (public .entry))) (shape .executions)) ⌝ }
-    ensures { λ r. ⌜ r .third ≡ absorbed (start .third) (rowsOf (thirdPart shape (now (s .entry)) (now (public .entry))) (shape .executions)) ⌝ }
-{
-    hash_inputs::draw(6, &s[32..64], firsts);
-    hash_inputs::draw(7, h2, seconds);
-    hash_inputs::draw(8, &s[64..96], thirds);
-    absorb_executions(
-        shape,
-        public,
-        s,
-        firsts,
-        seconds,
-        thirds,
-        start,
-        commitments,
-        rows,
-    )
-}
-
-// The same, with room for what is drawn.
 fn recomputed(
     shape: Shape,
     public: &[u8],
@@ -150,14 +81,16 @@ fn recomputed(
     let mut firsts = [0u8; 15360];
     let mut seconds = [0u8; 1536];
     let mut thirds = [0u8; 1024];
-    absorb_drawn(
+    hash_inputs::draw(6, &s[32..64], &mut firsts[0..f]);
+    hash_inputs::draw(7, h2, &mut seconds[0..w]);
+    hash_inputs::draw(8, &s[64..96], &mut thirds[0..p]);
+    absorb_executions(
         shape,
         public,
         s,
-        h2,
-        &mut firsts[0..f],
-        &mut seconds[0..w],
-        &mut thirds[0..p],
+        &firsts,
+        &seconds,
+        &thirds,
         start,
         commitments,
         rows,
@@ -173,12 +106,12 @@ fn compare_hashes(s: &[u8], t: Hashes) -> Answer
 {
     let mut first = [0u8; 32];
     hash_inputs::output(t.first, &mut first);
-    if !slices::equal(&first, &s[32..64]) {
+    if !equal::equal(&first, &s[32..64]) {
         return Answer::FirstHashDiffers;
     }
     let mut third = [0u8; 32];
     hash_inputs::output(t.third, &mut third);
-    if !slices::equal(&third, &s[64..96]) {
+    if !equal::equal(&third, &s[64..96]) {
         return Answer::ThirdHashDiffers;
     }
     Answer::Accepted

@@ -19,7 +19,7 @@ pub fn own(i: usize, share: &[u8], offset: &[u8], out: &mut [u8])
     if i != 0 {
         return;
     }
-    slices::xor_into(out, offset);
+    xor::xor_into(out, offset);
 }
 
 // Party i's share of the number 1.

@@ -1,5 +1,5 @@
 -- The parties' hashes; a frame whose offsets are written, and what is read of it. Assumes nothing.
-use mathlib.Core.Path.{_≡_, sym, ap, ap₂, _∙_}
+use mathlib.Core.Path.{_≡_, refl, sym, ap, ap₂, _∙_}
 use mathlib.Core.List.{List, _++_}
 use Prim.Native.Nat.{ℕ, _+_, _-_, _*_, _^_, _<_, _≤_}
 use native.Mathlib.Omega.{arith}
@@ -9,10 +9,10 @@ use Rattle.slices.specs.Lists.{rows, row, part, put, zipXor, sumXor}
 use Rattle.slices.specs.Tab.{rows-cong, row-of-rows}
 use Rattle.slices.specs.Sums.{sumXor-cong}
 use Rattle.slices.specs.Layout.{total}
-use Rattle.slices.proofs.Put.{front-again}
 use Rattle.shake.specs.Shake128.{shake128}
 use Rattle.stream.specs.declared.Sponge.{Sponge}
 use Rattle.stream.specs.Stream.{absorbed}
+use Rattle.absorb_rows.proofs.Laws.{more}
 use Rattle.banquet.specs.declared.Shape.{Shape}
 use Rattle.banquet.specs.Shape.{tapeSizes, frameSizes}
 use Rattle.banquet.specs.Sets.{aesScheme}
@@ -30,7 +30,7 @@ use Rattle.forms.specs.Party.{committed}
 use Rattle.signing.specs.Steps.{offsetsAt, ownRow, ownPart}
 use Rattle.signing.specs.Own.{own-long}
 use Rattle.signing.specs.Kept.{sum-room, sum-long}
-use Rattle.commit.proofs.Lists.{front-added, part-put}
+use Rattle.commit.proofs.Lists.{front-added, part-put, part-front}
 
 -- ---- the parties' hashes
 
@@ -102,25 +102,41 @@ module _ {S : Shape} (v : Valid S) (witness salt root : List ℕ) (e : ℕ) {tap
         let all : 0 + m ≡ m = omega arith in
         rw (all, none) at (part-read 0 m (omega arith))
 
-    -- the commitments and the output shares are read of the fronts of two arrays
-    pub part-made : (front d d′ : List ℕ) {commitments outputs : List ℕ} → length commitments ≡ parties * 32 → length outputs ≡ parties * 16
-        → commitments ≡ rows (λ i. commitment (aesScheme S) salt e i (seedOf (aesScheme S) salt root e i)) parties
-        → outputs
-        ≡ rows (λ i. outputShare (aesScheme S)
-        (committed front (take (at + 16 - at) (drop at out))
-        (take (at + 216 - (at + 16)) (drop (at + 16) out))) i (row (total (tapeSizes S)) i tapes)) parties
-        → take (parties * 32 - 0) (putMid 0 (parties * 32 - 0) d commitments) ++ take (parties * 16 - 0) (putMid 0 (parties * 16 - 0) d′ outputs)
-        ++ take (at + 216 - at) (drop at out)
-        ≡ ownPart S front witness salt root e
-    unfolding ownPart
-    part-made front d d′ m n c s =
-        ap₂ _++_
-        (ap₂ _++_ (front-again (parties * 32) d m ∙ c)
-        (front-again (parties * 16) d′ n ∙ s
-        ∙ rows-cong parties
+    abbrev own : List ℕ
+    own = ownRow S witness salt root e
+
+    -- the output shares, worked out with the offsets x
+    abbrev shares : List ℕ → List ℕ → List ℕ
+    shares front x =
+        rows (λ i. outputShare (aesScheme S) (committed front (take 16 x) (part 16 200 x)) i (row (total (tapeSizes S)) i tapes)) parties
+
+    own-room : 216 ≤ length own
+    own-room = omega (arith, own-long v witness salt root e l, tape-total v)
+
+    shares-are : (front : List ℕ) → shares front (take 216 own)
+        ≡ rows (λ i. outputShare (aesScheme S) (committed front (take 16 own) (part 16 200 own)) i (tapeOf (aesScheme S) salt root e i)) parties
+    shares-are front =
+        rows-cong parties
         (λ i l. ap₂ (λ x t. outputShare (aesScheme S) x i t)
-        (ap₂ (committed front) (front-read 16 (omega arith)) (part-read 16 200 (omega arith))) (tape-row i l))))
-        (front-read 216 (omega arith))
+        (ap₂ (committed front) (part-front 0 16 216 own (omega arith) own-room) (part-front 16 200 216 own (omega arith) own-room)) (tape-row i l))
+
+    -- the commitments were absorbed, and then the output shares and the offsets
+    pub part-made : (front : List ℕ) (s : Sponge) {a r : Sponge}
+        → a ≡ absorbed s (rows (λ i. commitment (aesScheme S) salt e i (seedOf (aesScheme S) salt root e i)) parties)
+        → r ≡ absorbed (absorbed a (shares front (take (at + 216 - at) (drop at out)))) (take (at + 216 - at) (drop at out))
+        → r ≡ absorbed s (ownPart S front witness salt root e)
+    unfolding ownPart
+    part-made front s {a} {r} p q =
+        let b = rows (λ i. outputShare (aesScheme S) (committed front (take 16 own) (part 16 200 own)) i (tapeOf (aesScheme S) salt root e i)) parties in
+        let c = rows (λ i. commitment (aesScheme S) salt e i (seedOf (aesScheme S) salt root e i)) parties in
+        more s (c ++ b) (take 216 own) (more s {t = a} {u = absorbed a b} c b p refl)
+        (q ∙ ap (λ x. absorbed (absorbed a (shares front x)) x) (front-read 216 (omega arith))
+        ∙ ap (λ x. absorbed (absorbed a x) (take 216 own)) (shares-are front))
+
+-- two pieces, of which the first is x
+pub two-pieces : (s : Sponge) (y : List ℕ) {a r : Sponge} {w x : List ℕ} → w ≡ x → a ≡ absorbed s w → r ≡ absorbed a y
+    → r ≡ absorbed (absorbed s x) y
+two-pieces s y e f g = g ∙ ap (λ a. absorbed a y) (f ∙ ap (absorbed s) e)
 
 -- ---- one turn: the frame and the root are rows
 

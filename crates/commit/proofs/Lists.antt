@@ -61,3 +61,12 @@ part-put k n m d s l h =
     (sym (drop-drop n k (take k d ++ (s ++ tail))) ∙ ap (drop n) (drop-at (take k d) (s ++ tail) k (length-take-le k d l))
     ∙ drop-append-le n s tail (omega arith))
     ∙ take-append-le m (drop n s) tail left
+
+-- part of a front
+pub part-front : (n m k : ℕ) (l : List ℕ) → n + m ≤ k → k ≤ length l → part n m (take k l) ≡ part n m l
+part-front n m k l h r =
+    let size : length (take k l) ≡ k = length-take-le k l r in
+    let left : m ≤ length (drop n (take k l)) = rw length-drop (omega (arith, size)) in
+    sym
+    (ap (part n m) (sym (take-append-drop k l)) ∙ ap (take m) (drop-append-le n (take k l) (drop k l) (omega (arith, size)))
+    ∙ take-append-le m (drop n (take k l)) (drop k l) left)

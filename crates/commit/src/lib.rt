@@ -3,39 +3,44 @@
 use banquet::Shape;
 use stream::Sponge;
 ghost use mathlib.Core.Path.{_≡_};
-ghost use mathlib.Core.List.{_++_};
 ghost use Prim.Native.Nat.{_*_, _≤_};
-ghost use lib.ListN.{length};
-ghost use Rattle.slices.specs.Lists.{rows, row, put, zipXor, sumXor};
+ghost use lib.ListN.{length, take};
+ghost use Rattle.slices.specs.Lists.{rows, row, part, put, zipXor, sumXor};
 ghost use Rattle.slices.specs.Layout.{total};
 ghost use Rattle.stream.specs.Stream.{absorbed};
 ghost use Rattle.banquet.specs.Shape.{tapeSizes, frameSizes};
 ghost use Rattle.banquet.specs.Sets.{aesScheme};
 ghost use Rattle.banquet.specs.Hash.{commitment};
+ghost use Rattle.banquet.specs.Execution.{outputShare};
 ghost use Rattle.banquet.specs.Signer.{seedOf, tapeOf};
 ghost use Rattle.sets.specs.Valid.{Valid};
+ghost use Rattle.forms.specs.Party.{committed};
 ghost use Rattle.signing.specs.Steps.{offsetsAt, ownRow, ownPart};
 
-// The parties' commitments and tapes.
+// Draws the parties' tapes, and absorbs the parties' commitments.
 fn draw_parties(
     shape: Shape,
     salt: &[u8],
     e: u8,
     root: &[u8],
-    commitments: &mut [u8],
     tapes: &mut [u8],
-)
-    requires { ⌜ Valid shape × (length (now salt) ≡ 32) × (length (now root) ≡ 16) × (length (now commitments) ≡ shape .parties * 32)
+    s: Sponge,
+) -> Sponge
+    requires { ⌜ Valid shape × (length (now salt) ≡ 32) × (length (now root) ≡ 16)
         × (length (now tapes) ≡ shape .parties * total (tapeSizes shape)) ⌝ }
-    ensures { λ _. ⌜ now (commitments .exit)
-        ≡ rows (λ i. commitment (aesScheme shape) (now (salt .entry)) e i (seedOf (aesScheme shape) (now (salt .entry)) (now (root .entry)) e i))
-        (shape .parties) ⌝ }
     ensures { λ _. ⌜ now (tapes .exit) ≡ rows (tapeOf (aesScheme shape) (now (salt .entry)) (now (root .entry)) e) (shape .parties) ⌝ }
+    ensures { λ r. ⌜ r
+        ≡ absorbed s (rows (λ i. commitment (aesScheme shape) (now (salt .entry)) e i
+        (seedOf (aesScheme shape) (now (salt .entry)) (now (root .entry)) e i)) (shape .parties)) ⌝ }
 {
     let seeds = leaf_seeds::leaf_seeds(shape, salt, e, root);
+    let c = shape.parties * 32;
     let size = 216 + 41 * shape.wide;
+    let mut room = [0u8; 4096];
+    let commitments = &mut room[0..c];
     party::hash_rows(0, salt, e, shape.parties, 32, &seeds, commitments);
     party::hash_rows(4, salt, e, shape.parties, size, &seeds, tapes);
+    absorb::absorb(s, commitments)
 }
 
 // The sum of the tapes into the frame, with the true values of key and inverses added: "An offset is the true value plus the sum of tape shares."
@@ -50,15 +55,30 @@ fn commit_offsets(shape: Shape, witness: &[u8], tapes: &[u8], frame: &mut [u8])
     let a = k + 216;
     let b = a + 41 * shape.wide;
     row_sums::sum_rows(shape.parties, tapes, &mut frame[k..b]);
-    slices::xor_into(&mut frame[k..a], witness);
+    xor::xor_into(&mut frame[k..a], witness);
 }
 
-// Three pieces, one after the other.
-fn absorb_three(s: Sponge, commitments: &[u8], outputs: &[u8], offsets: &[u8]) -> Sponge
-    ensures { λ r. ⌜ r ≡ absorbed s (now (commitments .entry) ++ now (outputs .entry) ++ now (offsets .entry)) ⌝ }
+// Absorbs the parties' output shares, and then the offsets of key and inverses.
+fn absorb_shares(shape: Shape, front: &[u8], offsets: &[u8], tapes: &[u8], s: Sponge) -> Sponge
+    requires { ⌜ Valid shape × (length (now front) ≡ 16) × (length (now offsets) ≡ 216)
+        × (length (now tapes) ≡ shape .parties * total (tapeSizes shape)) ⌝ }
+    ensures { λ r. ⌜ r
+        ≡ absorbed (absorbed s (rows (λ i. outputShare (aesScheme shape)
+        (committed (now (front .entry)) (take 16 (now (offsets .entry))) (part 16 200 (now (offsets .entry)))) i
+        (row (total (tapeSizes shape)) i (now (tapes .entry)))) (shape .parties))) (now (offsets .entry)) ⌝ }
 {
-    let a = absorb::absorb(s, commitments);
-    let b = absorb::absorb(a, outputs);
+    let o = shape.parties * 16;
+    let mut room = [0u8; 2048];
+    let outputs = &mut room[0..o];
+    output_shares::output_shares(
+        shape,
+        front,
+        &offsets[0..16],
+        &offsets[16..216],
+        tapes,
+        outputs,
+    );
+    let b = absorb::absorb(s, outputs);
     absorb::absorb(b, offsets)
 }
 
@@ -80,25 +100,11 @@ fn commit_frame(
         ≡ put (now (frame .entry)) (offsetsAt shape) (ownRow shape (now (witness .entry)) (now (salt .entry)) (now (root .entry)) e) ⌝ }
     ensures { λ r. ⌜ r ≡ absorbed s (ownPart shape (now (front .entry)) (now (witness .entry)) (now (salt .entry)) (now (root .entry)) e) ⌝ }
 {
-    let n = shape.parties;
-    let c = n * 32;
-    let o = n * 16;
     let k = shape.depth * 16 + 32;
-    let y = k + 16;
     let p = k + 216;
-    let mut commitments = [0u8; 4096];
-    draw_parties(shape, salt, e, root, &mut commitments[0..c], tapes);
+    let a = draw_parties(shape, salt, e, root, tapes, s);
     commit_offsets(shape, witness, tapes, frame);
-    let mut outputs = [0u8; 2048];
-    output_shares::output_shares(
-        shape,
-        front,
-        &frame[k..y],
-        &frame[y..p],
-        tapes,
-        &mut outputs[0..o],
-    );
-    absorb_three(s, &commitments[0..c], &outputs[0..o], &frame[k..p])
+    absorb_shares(shape, front, &frame[k..p], tapes, a)
 }
 
 // Those of all executions. `roots` has their root seeds, `witness` the key and the inverses of the S-boxes' inputs.

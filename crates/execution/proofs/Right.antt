@@ -76,15 +76,17 @@ module _ {S : Shape} (v : Valid S) where
           last-is = l;
         }
 
-    pub rows-right : (salt : List ℕ) (e : ℕ) (seeds : List ℕ) {front key inverse : List ℕ} → length front ≡ 16 → Bytes front → Bytes key
-        → Bytes inverse → Bytes product → {first fars : List ℕ} {given : ℕ} {tables : List ℕ} {last : ℕ}
-        → Right v firstBytes product R w first fars given tables last
-        → rows (λ i. workedRow S (committed front key inverse) product first fars given tables last i (tape (aesScheme S) salt e i (row 16 i seeds)))
-        parties
-        ≡ rows (λ i. shareRow (aesScheme S) (committed front key inverse) (challenge (aesScheme S) firstBytes product R) i
+    -- the rows worked out from them, y, are the rows of shares
+    pub rows-right : (salt : List ℕ) (e : ℕ) (seeds front key inverse : List ℕ) → length front ≡ 16 → Bytes front → Bytes key → Bytes inverse
+        → Bytes product → {first fars : List ℕ} {given : ℕ} {tables : List ℕ} {last : ℕ} → Right v firstBytes product R w first fars given tables last
+        → {y : List ℕ}
+        → y ≡ rows (λ i. workedRow S (committed front key inverse) product first fars given tables last i
         (tape (aesScheme S) salt e i (row 16 i seeds))) parties
-    rows-right salt e seeds {front} {key} {inverse} size f k n q g =
-        rows-cong parties
+        → y ≡ rows (λ i. shareRow (aesScheme S) (committed front key inverse) (challenge (aesScheme S) firstBytes product R) i
+        (tape (aesScheme S) salt e i (row 16 i seeds))) parties
+    rows-right salt e seeds front key inverse size f k n q g worked =
+        worked
+        ∙ rows-cong parties
         (λ i l.
         let t = tape (aesScheme S) salt e i (row 16 i seeds) in
         let h = hashed-tape (aesScheme S) (laws v) salt e i (row 16 i seeds) in

@@ -14,52 +14,7 @@ ghost use Rattle.sets.specs.Bounds.{rowSizes};
 ghost use Rattle.forms.specs.Party.{committed, workedRow, shareRow};
 ghost use Rattle.party_shares.specs.Given.{Lengths};
 
-// The same from the party's seed.
-fn seed_row(
-    shape: Shape,
-    salt: &[u8],
-    e: u8,
-    i: usize,
-    seed: &[u8],
-    front: &[u8],
-    key: &[u8],
-    inverse: &[u8],
-    product: &[u8],
-    first: &[u64],
-    far: &[u64],
-    given: u64,
-    tables: &[u64],
-    last: u64,
-    tape: &mut [u8],
-    out: &mut [u8],
-)
-    requires { ⌜ Lengths shape (now front) (now key) (now inverse) (now product) (now first) (now far) (now tables)
-        × (length (now salt) ≡ 32) × (i < 256) × (length (now seed) ≡ 16) × (length (now tape) ≡ total (tapeSizes shape))
-        × (length (now out) ≡ total (rowSizes shape)) ⌝ }
-    ensures { λ _. ⌜ now (out .exit)
-        ≡ workedRow shape (committed (now (front .entry)) (now (key .entry)) (now (inverse .entry)))
-        (now (product .entry)) (now (first .entry)) (now (far .entry)) given (now (tables .entry)) last i
-        (tapeOf (aesScheme shape) (now (salt .entry)) e i (now (seed .entry))) ⌝ }
-{
-    party::hash(4, salt, e, i as u8, seed, tape);
-    party_shares::party_row(
-        shape,
-        i,
-        front,
-        key,
-        inverse,
-        product,
-        first,
-        far,
-        given,
-        tables,
-        last,
-        tape,
-        out,
-    );
-}
-
-// The rows of all parties.
+// The rows of all parties: each draws its tape from its seed.
 fn seed_rows(
     shape: Shape,
     salt: &[u8],
@@ -87,19 +42,18 @@ fn seed_rows(
     let sizes = sets::tape_sizes(shape);
     let size = fields::offset(&sizes, 4);
     let len = sets::row_length(shape);
-    let mut tape = [0u8; 462];
+    let mut room = [0u8; 462];
+    let tape = &mut room[0..size];
     let n = shape.parties;
     for i in 0..n {
         let s = i * 16;
         let t = s + 16;
+        party::hash(4, salt, e, i as u8, &seeds[s..t], tape);
         let a = i * len;
         let b = a + len;
-        seed_row(
+        party_shares::party_row(
             shape,
-            salt,
-            e,
             i,
-            &seeds[s..t],
             front,
             key,
             inverse,
@@ -109,7 +63,7 @@ fn seed_rows(
             given,
             tables,
             last,
-            &mut tape[0..size],
+            tape,
             &mut out[a..b],
         );
     }
@@ -145,11 +99,12 @@ pub fn share_rows(
     points::far_values(shape, second, &mut far);
     let mut draws = [0u64; 10];
     elements::load(shape.wide, first, &mut draws);
+    let drawn = &draws[..];
     let given = gf::mul(
         bits,
         shape.low,
         opened::sum(&far[0..20]),
-        opened::sum(&draws),
+        opened::sum(drawn),
     );
     seed_rows(
         shape,
@@ -160,7 +115,7 @@ pub fn share_rows(
         key,
         inverse,
         product,
-        &draws,
+        drawn,
         &far[20..41],
         given,
         &tables,

@@ -12,7 +12,7 @@ fn add_hash(tag: u8, salt: &[u8], e: u8, i: u8, seed: &[u8], scratch: &mut [u8],
         ≡ zipXor (now (sum .entry)) (partyHash tag (now (salt .entry)) e i (now (seed .entry)) (length (now (sum .entry)))) ⌝ }
 {
     party::hash(tag, salt, e, i, seed, scratch);
-    slices::xor_into(sum, scratch);
+    xor::xor_into(sum, scratch);
 }
 
 // The sum of the hashes of n seeds.

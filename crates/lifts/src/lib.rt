@@ -1,7 +1,7 @@
 // The lifts of bytes into the wide fields: the table of 256 entries, and the powers of y.
 ghost use mathlib.Core.Path.{_≡_};
 ghost use Rattle.field.specs.Wide32.{lift32, powers32};
-ghost use Rattle.field.specs.Wide48.{powers48};
+ghost use Rattle.wide48.specs.Wide48.{powers48};
 
 const LIFT32: [u32; 256] = [
     0,

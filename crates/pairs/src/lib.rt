@@ -37,7 +37,7 @@ pub fn print_pair(verdict: Verdict, public: &[u8], n: u32, out: &mut [u8]) -> us
 {
     if verdict.number == 0 {
         let sizes = [32usize; 1];
-        text_lines::encode_lines(public, &sizes, &mut out[0..65]);
+        encode_lines::encode_lines(public, &sizes, &mut out[0..65]);
         return 65;
     }
     if verdict.number == 18 {

@@ -80,20 +80,22 @@ module _ {S : Shape} (v : Valid S) where
     extra-at : (k : ℕ) → k < 20 → getD extra k 0 ≡ numberAt wide k (tapePart (aesScheme S) 2 t)
     extra-at k l = ap (λ s. getD s k 0) h ∙ getD-tab (λ k. numberAt wide k p) 20 k 0 l ∙ ap (numberAt wide k) e
 
-    pub a-worked : (inputs : List ℕ)
-        → numbers wide m1 (λ j. valueS S (getD first j 0) (tabledRow S inputs tables j) (getD extra (2 * j) 0) last)
-        ≡ numbers wide m1 (workedA S first tables last t inputs)
+    pub a-worked : (inputs : List ℕ) {y : List ℕ}
+        → y ≡ numbers wide m1 (λ j. valueS S (getD first j 0) (tabledRow S inputs tables j) (getD extra (2 * j) 0) last)
+        → y ≡ numbers wide m1 (workedA S first tables last t inputs)
     unfolding workedA
-    a-worked inputs =
-        rows-cong m1
+    a-worked inputs g =
+        g
+        ∙ rows-cong m1
         (λ j l. ap (λ s. bytesOf wide (valueS S (getD first j 0) (tabledRow S inputs tables j) s last)) (extra-at (2 * j) (omega (arith, v .ten))))
 
-    pub b-worked : (inverses : List ℕ)
-        → numbers wide m1 (λ j. valueT S (tabledRow S inverses tables j) (getD extra (2 * j + 1) 0) last)
-        ≡ numbers wide m1 (workedB S first tables last t inverses)
+    pub b-worked : (inverses : List ℕ) {y : List ℕ}
+        → y ≡ numbers wide m1 (λ j. valueT S (tabledRow S inverses tables j) (getD extra (2 * j + 1) 0) last)
+        → y ≡ numbers wide m1 (workedB S first tables last t inverses)
     unfolding workedB
-    b-worked inverses =
-        rows-cong m1
+    b-worked inverses g =
+        g
+        ∙ rows-cong m1
         (λ j l. ap (λ s. bytesOf wide (valueT S (tabledRow S inverses tables j) s last)) (extra-at (2 * j + 1) (omega (arith, v .ten))))
 
   -- ---- all of them

@@ -11,27 +11,10 @@ ghost use Rattle.banquet.specs.Sets.{aesScheme};
 ghost use Rattle.sets.specs.Valid.{Valid};
 ghost use Rattle.sets.specs.Bounds.{rowSizes};
 ghost use Rattle.forms.specs.Point.{tabledRow, valueS, valueT};
-ghost use Rattle.forms.specs.Party.{committed, ownProducts, workedC, workedA, workedB, workedRow};
+ghost use Rattle.forms.specs.Party.{committed, workedC, workedA, workedB, workedRow};
 ghost use Rattle.party_shares.specs.Given.{Lengths};
 
-// P's shares at the points 20 to 40.
-fn products(
-    shape: Shape,
-    i: usize,
-    product: &[u8],
-    tape: &[u8],
-    scratch: &mut [u8],
-    out: &mut [u64],
-)
-    requires { ⌜ Valid shape × (length (now product) ≡ productPoints shape * shape .wide) × (length (now tape) ≡ total (tapeSizes shape))
-        × (length (now scratch) ≡ productPoints shape * shape .wide) × (length (now out) ≡ 21) ⌝ }
-    ensures { λ _. ⌜ now (out .exit) ≡ ownProducts shape (now (product .entry)) i (now (tape .entry)) ⌝ }
-{
-    circuit_shares::own(i, tapes::tape_part(shape, 3, tape), product, scratch);
-    elements::load(shape.wide, scratch, out);
-}
-
-// The share of c. `given` is what the public points 0 to 19 add to party 0's.
+// The share of c, from P's shares at the points 20 to 40. `given` is what the public points 0 to 19 add to party 0's.
 fn opened_c(shape: Shape, i: usize, product: &[u8], tape: &[u8], far: &[u64], given: u64) -> u64
     requires { ⌜ Valid shape × (length (now product) ≡ productPoints shape * shape .wide) × (length (now tape) ≡ total (tapeSizes shape))
         × (length (now far) ≡ 21) ⌝ }
@@ -41,7 +24,9 @@ fn opened_c(shape: Shape, i: usize, product: &[u8], tape: &[u8], far: &[u64], gi
     let mut bytes = [0u8; 126];
     let mut values = [0u64; 21];
     let end = product.len();
-    products(shape, i, product, tape, &mut bytes[0..end], &mut values);
+    let own = &mut bytes[0..end];
+    circuit_shares::own(i, tapes::tape_part(shape, 3, tape), product, own);
+    elements::load(shape.wide, own, &mut values);
     let c = dots::dot(bits, shape.low, far, &values);
     if i == 0 {
         return c ^ given;

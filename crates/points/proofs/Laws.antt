@@ -10,7 +10,7 @@ use borrow.Author.Tests.{eq-eqb, ne-eqb}
 use Rattle.slices.specs.Lists.{tab, rows}
 use Rattle.slices.specs.Tab.{getD-tab, rows-cong}
 use Rattle.field.specs.Wide32.{low32, powers32}
-use Rattle.field.specs.Wide48.{low48, powers48}
+use Rattle.wide48.specs.Wide48.{low48, powers48}
 use Rattle.lagrange.specs.Values.{lagrangeValue}
 use Rattle.tables.specs.Tables.{tableOf}
 use Rattle.banquet.specs.declared.Shape.{Shape}

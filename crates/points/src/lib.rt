@@ -14,9 +14,9 @@ fn near_values(shape: Shape, x: u64, out: &mut [u64])
     ensures { λ _. ⌜ now (out .exit) ≡ tab (near shape x) 21 ⌝ }
 {
     if shape.wide == 4 {
-        lagrange::values32_21(x, out);
+        lagrange_points::values32_21(x, out);
     } else {
-        lagrange::values48_21(x, out);
+        lagrange_points::values48_21(x, out);
     }
 }
 
@@ -26,9 +26,9 @@ pub fn far_values(shape: Shape, x: u64, out: &mut [u64])
     ensures { λ _. ⌜ now (out .exit) ≡ tab (far shape x) 41 ⌝ }
 {
     if shape.wide == 4 {
-        lagrange::values32_41(x, out);
+        lagrange_points::values32_41(x, out);
     } else {
-        lagrange::values48_41(x, out);
+        lagrange_points::values48_41(x, out);
     }
 }
 

@@ -34,7 +34,7 @@ fn sign_request(text: &[u8], request: &[u8], out: &mut [u8]) -> usize
         Answer::Accepted => {}
         _ => return print_verdict::print_verdict(verdict::verdict(answer), out),
     }
-    card_text::write_card(public, message, &signature, out)
+    write_card::write_card(public, message, &signature, out)
 }
 
 // What is written for a request to sign, at the front of `out`; returns its length.

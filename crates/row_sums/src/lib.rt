@@ -14,6 +14,6 @@ pub fn sum_rows(n: usize, rows: &[u8], out: &mut [u8])
     for j in 0..n {
         let a = j * len;
         let b = a + len;
-        slices::xor_into(out, &rows[a..b]);
+        xor::xor_into(out, &rows[a..b]);
     }
 }

@@ -15,9 +15,9 @@ use Rattle.field.specs.Ring.{mul}
 use Rattle.field.specs.Lift.{lift, IsEmbedding}
 use Rattle.field.specs.Linear.{combine}
 use Rattle.field.specs.Byte.{mul8}
-use Rattle.field.specs.Fits.{Fits, fits32, fits48}
+use Rattle.field.specs.Fits.{Fits, fits32}
 use Rattle.field.specs.Wide32.{field32, embedding32, powers32, lift32-powers}
-use Rattle.field.specs.Wide48.{field48, embedding48, powers48, lift48-powers}
+use Rattle.wide48.specs.Wide48.{fits48, field48, embedding48, powers48, lift48-powers}
 use Rattle.shake.specs.Laws.{sized-shake}
 use Rattle.circuit.specs.Sound.{IsCircuit}
 use Rattle.circuit.specs.Agree.{aes-circuit}

@@ -19,7 +19,7 @@ fn offset_of(value: &[u8], shares: &[u8], out: &mut [u8])
     ensures { λ _. ⌜ now (out .exit) ≡ zipXor (now (value .entry)) (now (shares .entry)) ⌝ }
 {
     slices::copy(out, value);
-    slices::xor_into(out, shares);
+    xor::xor_into(out, shares);
 }
 
 // The offsets of the key and of the inverses.

@@ -1,8 +1,8 @@
-// Byte slices: set to zero, copied, added, compared.
+// Byte slices: set to zero, and copied.
 ghost use mathlib.Core.Path.{_≡_};
 ghost use Prim.Native.Nat.{_+_, _≤_};
 ghost use lib.ListN.{length, replicate};
-ghost use Rattle.slices.specs.Lists.{put, zipXor, same};
+ghost use Rattle.slices.specs.Lists.{put};
 
 pub fn zero(dst: &mut [u8])
     ensures { λ _. ⌜ now (dst .exit) ≡ replicate (length (now (dst .entry))) 0 ⌝ }
@@ -28,29 +28,4 @@ pub fn copy_at(dst: &mut [u8], at: usize, src: &[u8])
 {
     let end = at + src.len();
     copy(&mut dst[at..end], src);
-}
-
-// Adds src to dst.
-pub fn xor_into(dst: &mut [u8], src: &[u8])
-    requires { ⌜ length (now dst) ≡ length (now src) ⌝ }
-    ensures { λ _. ⌜ now (dst .exit) ≡ zipXor (now (dst .entry)) (now (src .entry)) ⌝ }
-{
-    for i in 0..src.len() {
-        dst[i] = dst[i] ^ src[i];
-    }
-}
-
-// Whether both have as many bytes, and the same.
-pub fn equal(a: &[u8], b: &[u8]) -> bool
-    ensures { λ r. ⌜ r ≡ same (now (a .entry)) (now (b .entry)) ⌝ }
-{
-    if a.len() != b.len() {
-        return false;
-    }
-    for i in 0..a.len() {
-        if a[i] != b[i] {
-            return false;
-        }
-    }
-    true
 }

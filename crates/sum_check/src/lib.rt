@@ -18,7 +18,7 @@ pub fn check_sums(shape: Shape, ciphertext: &[u8], e: u8, rows: &[u8], sums: &mu
     ensures { λ _. ⌜ now (sums .exit) ≡ sumXor (shape .parties) (λ i. row (total (rowSizes shape)) i (now (rows .entry))) ⌝ }
 {
     row_sums::sum_rows(shape.parties, rows, sums);
-    if !slices::equal(&sums[0..16], ciphertext) {
+    if !equal::equal(&sums[0..16], ciphertext) {
         return Answer::ShareDiffers(shape.parties as u8);
     }
     let sizes = sets::row_sizes(shape);

@@ -7,7 +7,6 @@ use native.Mathlib.Numerals.{add-one}
 use native.Mathlib.Omega.{arith}
 use lib.Dec.{eqb}
 use lib.ListN.{length, drop, getD, length-drop, drop-of-length-le}
-use lib.Seq.{drop-cons}
 use borrow.Author.Tests.{ne-eqb}
 use Rattle.banquet.specs.declared.Answer.{Answer}
 use Rattle.banquet.specs.declared.Answer.the-variants.{Accepted, TextForm}
@@ -15,15 +14,13 @@ use Rattle.banquet.specs.Answer.{require}
 use Rattle.banquet.specs.Card.{afterLine, hasSize, isLine, checkLines}
 use Rattle.text_lines.specs.Lines.{lineEnd}
 use Rattle.text_lines.specs.Form.{first-line, other-lines}
+use Rattle.text_lines.specs.Parts.{sizes-left}
 use Rattle.text_lines.proofs.Found.{no-line, has-line, line-is, line-after}
 
 -- the check of the lines from line i on, which begin at index at
 
 abbrev pub checked : ℕ → List ℕ → List ℕ → ℕ → ℕ → Answer
 checked message sizes text i at = checkLines message (drop i sizes) (i + 1) (drop at text) Accepted
-
-pub sizes-left : (sizes : List ℕ) (i : ℕ) → i < length sizes → drop i sizes ≡ getD sizes i 0 ∷ drop (i + 1) sizes
-sizes-left sizes i h = drop-cons sizes i 0 h ∙ simp add-one
 
 module _ (message : ℕ) (sizes text : List ℕ) (i at : ℕ) where
   check-step : i < length sizes → checked message sizes text i at

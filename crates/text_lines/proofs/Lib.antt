@@ -1,6 +1,5 @@
--- The laws that the proofs cite: of the scan for a line's end, of the lines so found, of the check, and of the loops that read and write lines.
+-- The laws that the proofs cite: of the scan for a line's end, of the lines so found, of the check, and of the loop that reads lines.
 mod Laws
 mod Found
 mod Checked
 mod Reading
-mod Writing

@@ -11,8 +11,9 @@ use Rattle.banquet.specs.declared.Answer.the-variants.{Accepted}
 use Rattle.banquet.specs.Answer.{outputAfter}
 use Rattle.banquet.specs.Card.{decoded, lineOf, decodedLines}
 use Rattle.text_lines.specs.Lines.{lineEnd}
+use Rattle.text_lines.specs.Parts.{sizes-left}
 use Rattle.text_lines.proofs.Found.{line-cut, line-after}
-use Rattle.text_lines.proofs.Checked.{checked, sizes-left, accepted-line}
+use Rattle.text_lines.proofs.Checked.{checked, accepted-line}
 
 -- the first i lines end at index at and stand for p bytes, and l is d with these in front
 pub record Reading (message : ℕ) (sizes text d : List ℕ) (i at p : ℕ) (l : List ℕ) : Type 0 where

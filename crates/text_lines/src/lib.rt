@@ -1,13 +1,13 @@
-// Lines of text in hexadecimal: their form is checked, bytes are read from them and written as them. A form is how many bytes each line stands for.
+// Lines of text in hexadecimal: their form is checked, and bytes are read from them. A form is how many bytes each line stands for.
 use banquet::Answer;
 use banquet::Symbol;
 ghost use mathlib.Core.Path.{_≡_};
-ghost use Prim.Native.Nat.{_+_, _*_, _<_, _≤_};
+ghost use Prim.Native.Nat.{_+_, _<_, _≤_};
 ghost use lib.ListN.{length, drop};
 ghost use Rattle.slices.specs.Layout.{total};
 ghost use Rattle.banquet.specs.declared.Answer.the-variants.{Accepted};
 ghost use Rattle.banquet.specs.Answer.{outputAfter};
-ghost use Rattle.banquet.specs.Card.{decodedLines, encodedLines, hasSize, checkLines};
+ghost use Rattle.banquet.specs.Card.{decodedLines, hasSize, checkLines};
 ghost use Rattle.text_lines.specs.Lines.{lineEnd};
 
 // Where the line that begins at `from` ends, if it is of digits and is ended; else where the text ends.
@@ -90,20 +90,4 @@ pub fn read_lines(text: &[u8], sizes: &[usize], message: usize, out: &mut [u8]) 
     }
     decode_lines(text, sizes, message, out);
     answer
-}
-
-// The text of this form that stands for the bytes.
-pub fn encode_lines(s: &[u8], sizes: &[usize], out: &mut [u8])
-    requires { ⌜ (length (now s) ≡ total (now sizes)) × (length (now out) ≡ 2 * total (now sizes) + length (now sizes)) ⌝ }
-    ensures { λ _. ⌜ now (out .exit) ≡ encodedLines (now (sizes .entry)) (now (s .entry)) ⌝ }
-{
-    let mut p = 0;
-    for i in 0..sizes.len() {
-        let q = p + sizes[i];
-        let a = 2 * p + i;
-        let b = 2 * q + i;
-        hex::encode(&s[p..q], &mut out[a..b]);
-        out[b] = b'\n';
-        p = q;
-    }
 }

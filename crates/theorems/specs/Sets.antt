@@ -6,7 +6,7 @@ use lib.Dec.{lit<, lit≤}
 use lib.ListN.{take, drop, length-drop}
 use Rattle.slices.specs.Bytes.{Sized, take-bytes, drop-bytes}
 use Rattle.field.specs.Wide32.{field32, embedding32}
-use Rattle.field.specs.Wide48.{field48, embedding48}
+use Rattle.wide48.specs.Wide48.{field48, embedding48}
 use Rattle.shake.specs.Laws.{sized-shake}
 use Rattle.circuit.specs.Sound.{IsCircuit}
 use Rattle.circuit.specs.Agree.{aes-circuit}

@@ -119,7 +119,7 @@ fn write_line(line: &[u8], end: usize) {
 
 fn answer_card(text: &[u8]) {
     let mut line = [0u8; 30];
-    let end = card_text::print_card(text, &mut line);
+    let end = print_card::print_card(text, &mut line);
     write_line(&line, end);
 }
 

@@ -47,11 +47,11 @@ fn values32(x: u64)
     requires { ⌜ x < 2 ^ 32 ⌝ }
 {
     let mut few = [0u64; 21];
-    lagrange::values32_21(x, &mut few);
+    lagrange_points::values32_21(x, &mut few);
     print(b"32 bits, 21 points, at ", x);
     print_all(&few);
     let mut many = [0u64; 41];
-    lagrange::values32_41(x, &mut many);
+    lagrange_points::values32_41(x, &mut many);
     print(b"32 bits, 41 points, at ", x);
     print_all(&many);
 }
@@ -60,11 +60,11 @@ fn values48(x: u64)
     requires { ⌜ x < 2 ^ 48 ⌝ }
 {
     let mut few = [0u64; 21];
-    lagrange::values48_21(x, &mut few);
+    lagrange_points::values48_21(x, &mut few);
     print(b"48 bits, 21 points, at ", x);
     print_all(&few);
     let mut many = [0u64; 41];
-    lagrange::values48_41(x, &mut many);
+    lagrange_points::values48_41(x, &mut many);
     print(b"48 bits, 41 points, at ", x);
     print_all(&many);
 }
@@ -93,7 +93,7 @@ fn dots(x: u64)
     requires { ⌜ x < 2 ^ 32 ⌝ }
 {
     let mut coefficients = [0u64; 21];
-    lagrange::values32_21(x, &mut coefficients);
+    lagrange_points::values32_21(x, &mut coefficients);
     let p = lifts::powers32();
     let mut tables = [0u64; 672];
     tables::tables(32, 0x8d, &p, &coefficients, &mut tables);
@@ -106,9 +106,9 @@ fn dot(x: u64)
     requires { ⌜ x < 2 ^ 32 ⌝ }
 {
     let mut coefficients = [0u64; 41];
-    lagrange::values32_41(x, &mut coefficients);
+    lagrange_points::values32_41(x, &mut coefficients);
     let mut points = [0u64; 41];
-    lagrange::values32_41(0x89abcdef, &mut points);
+    lagrange_points::values32_41(0x89abcdef, &mut points);
     print(b"41 values, at ", x);
     print(b" ", dots::dot(32, 0x8d, &coefficients, &points));
     end_line();

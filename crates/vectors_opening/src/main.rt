@@ -160,7 +160,7 @@ fn change(line: &[u8], at: usize, opening: &mut [u8])
     requires { ⌜ (length (now line) ≡ 18) × (at + 6 ≤ 18) × (length (now opening) ≡ 2555) ⌝ }
 {
     let to = size(line, at, 2, 2551);
-    slices::xor_into(&mut opening[to..to + 4], &line[at + 2..at + 6]);
+    xor::xor_into(&mut opening[to..to + 4], &line[at + 2..at + 6]);
 }
 
 fn call_verify(line: &[u8], inputs: &[u8], opening: &[u8], work: &mut [u8]) -> Answer

@@ -151,7 +151,7 @@ fn tell_signature(output: &[u8], lent: &[u8])
     requires { ⌜ (length (now output) ≡ 19800) × (length (now lent) ≡ 53286) ⌝ }
 {
     tell(run(output, 19776, 0xee));
-    if slices::equal(&output[0..19776], &lent[33509..53285]) {
+    if equal::equal(&output[0..19776], &lent[33509..53285]) {
         io::write_all(STDOUT_FILENO, b" same");
     } else {
         io::write_all(STDOUT_FILENO, b" different");

@@ -1,2 +1,3 @@
--- Answers that refuse.
+-- Answers that refuse, and an answer as one number.
 pub mod Refusal
+pub mod Code

@@ -1,8 +1,9 @@
-// What is told of an answer: its number and its place.
+// What is told of an answer: its number and its place, apart and as one number.
 use banquet::Answer;
 use banquet::Verdict;
 ghost use mathlib.Core.Path.{_≡_};
 ghost use Rattle.banquet.specs.Answer.{verdict, verdictOf};
+ghost use Rattle.verdict.specs.Code.{codeOf};
 
 fn at(number: u8, place: u8) -> Verdict
     ensures { λ r. ⌜ r ≡ verdict number place ⌝ }
@@ -38,4 +39,12 @@ pub fn verdict(answer: Answer) -> Verdict
         Answer::ThirdHashDiffers => at(17, 0),
         Answer::TextForm(place) => at(18, place),
     }
+}
+
+// "If an answer is an enum, a definition lists this paper's number and values for each of its cases": number * 65,536 + place.
+pub fn code(answer: Answer) -> u32
+    ensures { λ r. ⌜ r ≡ codeOf answer ⌝ }
+{
+    let told = verdict(answer);
+    told.number as u32 * 65536 + told.place as u32
 }

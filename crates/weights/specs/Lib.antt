@@ -1,4 +1,3 @@
--- Constant weights for the points 0 to 20 and 0 to 40, in both wide fields.
+-- Constant weights for the points 0 to 20 and 0 to 40, in the field of 2^32 elements.
 pub mod Weights
 pub mod Weights32
-pub mod Weights48

@@ -14,6 +14,7 @@ use Rattle.scratch.proofs.Laws.{scratch-front}
 use Rattle.banquet.specs.Sets.{aesScheme}
 use Rattle.banquet.specs.Signature.{headPart, frameOf}
 use Rattle.verify_answers.specs.Answers.{product-refused, products-hold}
+use Rattle.check_signature.proofs.Hashes.{products-right}
 use Rattle.check_signature.proofs.check_products.Statement.{statement}
 use Rattle.check_signature.proofs.check_products.Tie as tie
 
@@ -61,8 +62,8 @@ returns-2 c =
     let s = a .s .now in
     let 𝓢 = aesScheme (a .shape) in
     let l = (r .before .before .before) in (
-      x .check-hashes .ensures
-          ∙ sym (products-hold (a .shape) (a .public .now) (a .message .now) (headPart 𝓢 0 s) (headPart 𝓢 1 s) (headPart 𝓢 2 s) (frameOf 𝓢 s)
+      products-right (a .shape) (a .public .now) (a .message .now) s (x .check-hashes .ensures)
+          (products-hold (a .shape) (a .public .now) (a .message .now) (headPart 𝓢 0 s) (headPart 𝓢 1 s) (headPart 𝓢 2 s) (frameOf 𝓢 s)
           ((l .before .before) .first-product .ensures) (l .if1 .left)),
       scratch-front (a .shape .parties * r .row-length .result) (a .work .now) (x .check-hashes .last .1 .1 .1 .1 .1 .1 .0)
           (omega (arith, most r)) (start r .pre .1) (x .check-hashes .kept .1 .1 .1 .1 .1 .1 .0),

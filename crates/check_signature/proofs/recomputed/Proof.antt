@@ -1,47 +1,86 @@
--- `check_signature::recomputed` meets its contract: there is room for what is drawn. Assumes nothing.
-use mathlib.Core.List.{List}
+-- `check_signature::recomputed` meets its contract: there is room for the challenges, and they are those of h1, h2 and h3. Assumes nothing.
+use mathlib.Core.Path.{refl, ap, _∙_}
+use mathlib.Core.List.{_∷_}
 use Prim.Native.Nat.{ℕ, _*_, _≤_}
 use native.Mathlib.Nat.{mul-le-mul}
 use native.Mathlib.Omega.{arith}
-use lib.ListN.{replicate}
+use lib.Dec.{lit≤}
+use lib.ListN.{length}
 use borrow.Author.Needs.{needs}
-use Rattle.slices.proofs.Put.{front-long}
+use Rattle.slices.proofs.Put.{cut-long}
 use Rattle.banquet.specs.Shape.{firstChallengeLength}
 use Rattle.sets.specs.Bounds.{by-ten}
+use Rattle.verify_answers.specs.Head.{h1-is, h3-is}
+use Rattle.second_hash.proofs.Laws.{sized-second}
+use Rattle.check_signature.proofs.Execution.{drawn-front, array-kept}
 use Rattle.check_signature.proofs.recomputed.Statement.{statement}
 use Rattle.check_signature.proofs.recomputed.Tie as tie
 
+zero-le : (n : ℕ) → 0 ≤ n
+zero-le n = omega arith
+
 module _ (s : tie.Start) where
+  abbrev f : ℕ
+  f = s .args .shape .executions * firstChallengeLength (s .args .shape)
+
+  abbrev w : ℕ
+  w = s .args .shape .executions * s .args .shape .wide
+
+  abbrev p : ℕ
+  p = s .args .shape .executions * 4
+
   ten : firstChallengeLength (s .args .shape) ≤ 60
   ten = omega (arith, by-ten (s .pre .0 .valid) (s .args .shape .wide), s .pre .0 .valid .wide-most)
 
-  firsts-most : s .args .shape .executions * firstChallengeLength (s .args .shape) ≤ 15360
+  firsts-most : f ≤ 15360
   firsts-most = mul-le-mul (s .pre .0 .valid .brief) ten
 
-  seconds-most : s .args .shape .executions * s .args .shape .wide ≤ 1536
+  seconds-most : w ≤ 1536
   seconds-most = mul-le-mul (s .pre .0 .valid .brief) (s .pre .0 .valid .wide-most)
 
-absorb-drawn-requires : tie.Need-absorb-drawn-requires
-absorb-drawn-requires c κs =
-    let s = (c .before .before .before .before .before .before .before .before .before .before .before .before) in
-    let p = s .pre in
-    let x : List ℕ = replicate 15360 0 in
-    let y : List ℕ = replicate 1536 0 in
-    let z : List ℕ = replicate 1024 0 in
-    let few : s .args .shape .executions ≤ 256 = p .0 .valid .brief in (
-      p .0,
-      p .1,
-      front-long (s .args .shape .executions * firstChallengeLength (s .args .shape)) x (firsts-most s),
-      front-long (s .args .shape .executions * s .args .shape .wide) y (seconds-most s),
-      front-long (s .args .shape .executions * 4) z (omega (arith, few)),
-      p .2,
-      p .3,
+  thirds-most : p ≤ 1024
+  thirds-most = omega (arith, s .pre .0 .valid .brief)
+
+  h1-room : 64 ≤ length (s .args .s .now)
+  h1-room = omega (arith, s .pre .0 .file-sized .size)
+
+  h3-room : 96 ≤ length (s .args .s .now)
+  h3-room = omega (arith, s .pre .0 .file-sized .size)
+
+abbrev start : tie.After-draw-arg → tie.Start
+start c = (c .before .before .before .before .before .before .before .before)
+
+draw-requires-2 : tie.Need-draw-requires-2
+draw-requires-2 c κs = let s = start (c .before .before .before .before) in ap length (s .pre .1) ∙ sized-second (s .args .shape) _ _ .size
+
+firsts-kept : tie.Need-slice-aggregate-absorb-executions
+firsts-kept c = let s = start (c .before .before .before .before .before .before .before .before .before .before .before) in array-kept (f s) (firsts-most s) ((c .before .before .before .before .before .before .before .before .before) .draw .last .1 .1 .0) ((c .before .before .before .before .before .before .before .before .before) .draw .kept .1 .1 .0)
+
+seconds-kept : tie.Need-slice-aggregate-absorb-executions-2
+seconds-kept c = let s = start (c .before .before .before .before .before .before .before .before .before .before .before .before) in array-kept (w s) (seconds-most s) ((c .before .before .before .before .before .before .before) .draw2 .last .1 .1 .0) ((c .before .before .before .before .before .before .before) .draw2 .kept .1 .1 .0)
+
+thirds-kept : tie.Need-slice-aggregate-absorb-executions-3
+thirds-kept c = let s = start (c .before .before .before .before .before .before .before .before .before .before .before .before .before) in array-kept (p s) (thirds-most s) ((c .before .before .before .before) .draw3 .last .1 .1 .0) ((c .before .before .before .before) .draw3 .kept .1 .1 .0)
+
+absorb-executions-requires : tie.Need-absorb-executions-requires
+absorb-executions-requires c κs =
+    let s = start (c .before .before .before .before .before .before .before .before .before .before .before .before .before .before .before) in
+    let a = s .args in (
+      s .pre .0,
+      record {
+        firsts-are = drawn-front (f s) (firsts-most s) (ap (6 ∷_) (h1-is (a .shape) (a .s .now))) ((c .before .before .before .before .before .before .before .before .before .before .before .before .before) .draw .ensures);
+        seconds-are = drawn-front (w s) (seconds-most s) (ap (7 ∷_) (s .pre .1)) ((c .before .before .before .before .before .before .before .before .before .before) .draw2 .ensures);
+        thirds-are = drawn-front (p s) (thirds-most s) (ap (8 ∷_) (h3-is (a .shape) (a .s .now))) ((c .before .before .before .before .before .before) .draw3 .ensures);
+      },
+      s .pre .2,
+      s .pre .3,
     )
 
 pub recomputed-spec : {M : Type 1} → statement M
 recomputed-spec =
     tie.close
-    (tie.spec (λ c. omega (arith, ten (c .before .before .before .before .before .before))) (λ c. omega (arith, firsts-most (c .before .before .before .before .before .before))) (λ c. omega (arith, seconds-most (c .before .before .before .before .before .before .before))) (λ c. search needs)
-    (λ c. search needs) (λ c. search needs) (λ c. omega (arith, firsts-most (c .before .before .before .before .before .before .before))) (λ c. search needs) (λ c. search needs)
-    (λ c. omega (arith, seconds-most (c .before .before .before .before .before .before .before .before))) (λ c. search needs) (λ c. search needs) (λ c. search needs) absorb-drawn-requires (λ c. search needs)
-    (λ c. search needs) (λ c. search needs))
+    (tie.spec (λ c. omega (arith, ten (c .before .before .before .before .before .before))) (λ c. omega (arith, firsts-most (c .before .before .before .before .before .before))) (λ c. omega (arith, seconds-most (c .before .before .before .before .before .before .before))) (λ c. omega (arith, thirds-most (c .before .before .before .before .before .before .before)))
+    (λ c. lit≤ tt) (λ c. lit≤ tt) (λ c. h1-room (c .before .before .before .before .before .before .before)) (λ c. zero-le _) (λ c. zero-le _) (λ c. firsts-most (start c))
+    (λ c κs. cut-long 32 64 (start (c .before) .args .s .now) refl (h1-room (start (c .before)))) (λ c. zero-le _) (λ c. zero-le _) (λ c. seconds-most (start (c .before .before .before))) draw-requires-2 (λ c. lit≤ tt)
+    (λ c. lit≤ tt) (λ c. h3-room (start (c .before .before .before .before .before .before))) (λ c. zero-le _) (λ c. zero-le _) (λ c. thirds-most (start (c .before .before .before .before .before .before .before))) (λ c κs. cut-long 64 96 (start (c .before .before .before .before .before .before .before .before) .args .s .now) refl (h3-room (start (c .before .before .before .before .before .before .before .before)))) firsts-kept
+    seconds-kept thirds-kept absorb-executions-requires (λ c. search needs) (λ c. search needs) (λ c. search needs))

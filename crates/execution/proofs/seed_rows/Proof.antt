@@ -1,26 +1,25 @@
 -- `execution::seed_rows` meets its contract: after i turns the first i rows are written; the tape is scratch. Assumes nothing.
 use mathlib.Core.Path.{_≡_, sym, ap, _∙_}
-use Prim.Native.Nat.{ℕ, _≤_, _+_, _-_, _*_}
+use Prim.Native.Nat.{ℕ, _<_, _≤_, _+_, _-_, _*_}
 use native.Mathlib.Omega.{arith}
 use lib.ListN.{length}
 use borrow.Author.Needs.{needs}
-use borrow.Rule.Slice.PartMut.{same-len-mid}
 use Rattle.slices.specs.Lists.{row}
 use Rattle.slices.specs.Layout.{total}
-use Rattle.slices.proofs.Rows.{Stacking, stacking-none, stacking-lent, stacking-all, row-fits, row-long, row-cut}
+use Rattle.slices.proofs.Rows.{Stacking, stacking-none, stacking-lent, stacking-all, row-fits, row-long}
 use Rattle.banquet.specs.Shape.{tapeSizes}
 use Rattle.banquet.specs.Sets.{aesScheme}
 use Rattle.banquet.specs.Hash.{tape as tapeOf}
 use Rattle.sets.specs.Bounds.{tape-most}
 use Rattle.forms.specs.Party.{committed, workedRow}
 use Rattle.party_shares.proofs.Laws.{front-long}
-use Rattle.execution.proofs.Laws.{offset-fits, size-is, rows-few}
+use Rattle.execution.proofs.Laws.{offset-fits, size-is, rows-few, drawn-row}
 use Rattle.execution.proofs.seed_rows.Statement.{statement}
 use Rattle.execution.proofs.seed_rows.Tie as tie
 
 abbrev Inv-loop : tie.InvT-loop
 Inv-loop shape salt e seeds front key inverse product first far given tables last out₀ size len tape₀ n i₀ out tape i =
-    (i ≤ n) × (length tape ≡ 462)
+    (i ≤ n) × (length tape ≡ total (tapeSizes shape))
     × Stacking (λ i. workedRow shape (committed front key inverse) product first far given tables last i
     (tapeOf (aesScheme shape) salt e i (row 16 i seeds))) len i (n * len) out
 
@@ -31,10 +30,10 @@ abbrev entry : tie.After-row-length Inv-loop μ-loop → tie.Start Inv-loop μ-l
 entry k = k .before .before .before .before .before .before .before .before .before .before .before .before .before .before
 
 abbrev start : tie.At-loop Inv-loop μ-loop → tie.Start Inv-loop μ-loop
-start k = entry (k .before)
+start k = entry (k .before .before)
 
 abbrev len : tie.At-loop Inv-loop μ-loop → ℕ
-len k = k .before .row-length .result
+len k = k .before .before .row-length .result
 
 -- row i of the output fits
 fits : (c : tie.In-loop Inv-loop μ-loop)
@@ -43,17 +42,17 @@ fits c = row-fits (len (c .before)) (c .loop-test .taken)
 
 -- all rows are few bytes, as many as the output has
 bound : (k : tie.At-loop Inv-loop μ-loop) → start k .args .shape .parties * len k ≤ 18176
-bound k = rows-few (start k .pre .0 .valid) (k .before .row-length .ensures)
+bound k = rows-few (start k .pre .0 .valid) (k .before .before .row-length .ensures)
 
 whole : (k : tie.After-row-length Inv-loop μ-loop) → length (entry k .args .out .now) ≡ entry k .args .shape .parties * k .row-length .result
 whole k = entry k .pre .3 ∙ ap (entry k .args .shape .parties *_) (sym (k .row-length .ensures))
 
 -- the length of a tape
-drawn : (k : tie.At-loop Inv-loop μ-loop) → k .before .before .offset .result ≡ total (tapeSizes (start k .args .shape))
-drawn k = size-is (start k .pre .0 .valid) (k .before .before .before .before .tape-sizes .ensures) (k .before .before .offset .ensures)
+drawn : (k : tie.After-row-length Inv-loop μ-loop) → k .before .offset .result ≡ total (tapeSizes (entry k .args .shape))
+drawn k = size-is (entry k .pre .0 .valid) (k .before .before .before .tape-sizes .ensures) (k .before .offset .ensures)
 
-small : (k : tie.At-loop Inv-loop μ-loop) → k .before .before .offset .result ≤ 462
-small k = omega (arith, drawn k, tape-most (start k .pre .0 .valid))
+small : (k : tie.After-row-length Inv-loop μ-loop) → k .before .offset .result ≤ 462
+small k = omega (arith, drawn k, tape-most (entry k .pre .0 .valid))
 
 offset-requires : tie.Need-offset-requires Inv-loop μ-loop
 offset-requires c κs =
@@ -61,60 +60,74 @@ offset-requires c κs =
     offset-fits (s .pre .0 .valid) (c .before .tape-sizes .ensures)
 
 loop-holds : tie.Need-loop-holds Inv-loop μ-loop
-loop-holds c = (search needs, search needs, stacking-none _ _ (whole c))
+loop-holds c = let k = c .before in (search needs, front-long _ (drawn k) (small k), stacking-none _ _ (whole k))
 
-seed-row-requires : tie.Need-seed-row-requires Inv-loop μ-loop
-seed-row-requires c κs =
-    let t = c .before .before .before in
+-- a party's number is a byte
+byte : (c : tie.In-loop Inv-loop μ-loop) → c .before .loop .i < 256
+byte c = omega (arith, c .loop-test .taken, start (c .before) .pre .0 .valid .few)
+
+hash-requires : tie.Need-hash-requires Inv-loop μ-loop
+hash-requires c κs =
+    let t = c .before .before in
     let k = t .before in
     let s = start k in
-    let i = k .loop .i in (
-      s .pre .0,
-      s .pre .1,
-      omega (arith, t .loop-test .taken, s .pre .0 .valid .few),
-      row-long i 16 (s .args .seeds .now) (omega (arith, row-fits 16 (t .loop-test .taken), s .pre .2)),
-      front-long (k .loop .tape) (drawn k) (omega (arith, small k, k .loop .inv .1)),
-      row-long i (len k) (k .loop .out) (omega (arith, fits t, k .loop .inv .2 .long)) ∙ k .before .row-length .ensures,
-    )
+    (s .pre .1, row-long (k .loop .i) 16 (s .args .seeds .now) (omega (arith, row-fits 16 (t .loop-test .taken), s .pre .2)))
 
-add-i : tie.Need-add-i Inv-loop μ-loop
-add-i c =
-    let t = c .before .before .before .before .before .before .before in
-    omega (arith, t .loop-test .taken, start (t .before) .pre .0 .valid .few)
+-- the tape keeps its length
+long : (h : tie.After-hash Inv-loop μ-loop)
+    → length (h .hash .last .1 .1 .1 .1 .1 .0) ≡ total (tapeSizes (start (h .before .before .before .before) .args .shape))
+long h = h .hash .kept .1 .1 .1 .1 .1 .0 ∙ h .before .before .before .before .loop .inv .1
+
+party-row-requires : tie.Need-party-row-requires Inv-loop μ-loop
+party-row-requires c κs =
+    let h = c .before .before .before .before in
+    let t = h .before .before .before in
+    let k = t .before in (
+      start k .pre .0,
+      long h,
+      row-long (k .loop .i) (len k) (k .loop .out) (omega (arith, fits t, k .loop .inv .2 .long)) ∙ k .before .before .row-length .ensures,
+    )
 
 loop-again : tie.Need-loop-again Inv-loop μ-loop
 loop-again c =
-    let h = c .before .before .before .seed-row in
-    let t = c .before .before .before .before .before .before .before in
+    let r = c .before .before in
+    let h = r .before .before .before .before .before in
+    let t = h .before .before .before in
     let k = t .before in
     let s = start k in
     let a = s .args in
     let i = k .loop .i in
-    let size = k .before .before .offset .result in
-    let last = h .last .1 .1 .1 .1 .1 .1 .1 .1 .1 .1 .1 .1 .1 .1 .0 in
-    let kept = h .kept .1 .1 .1 .1 .1 .1 .1 .1 .1 .1 .1 .1 .1 .1 in
-    let row = ap (λ seed. workedRow (a .shape) (committed (a .front .now) (a .key .now) (a .inverse .now)) (a .product .now) (a .first .now)
-    (a .far .now) (a .given) (a .tables .now) (a .last) i (tapeOf (aesScheme (a .shape)) (a .salt .now) (a .e) i seed)) (row-cut i 16 (a .seeds .now)) in (
-      omega arith,
-      same-len-mid 0 (size - 0) (k .loop .tape) last (kept .0) ∙ k .loop .inv .1,
-      stacking-lent (k .loop .inv .2) (fits t) (h .ensures ∙ row) (kept .1 .0),
-    )
+    let row = drawn-row (s .pre .0 .valid) (workedRow (a .shape) (committed (a .front .now) (a .key .now) (a .inverse .now)) (a .product .now)
+    (a .first .now) (a .far .now) (a .given) (a .tables .now) (a .last) i) (a .salt .now) (a .e) i (a .seeds .now) (r .party-row .ensures)
+    (h .hash .ensures) (k .loop .inv .1) in
+    (omega arith, long h, stacking-lent (k .loop .inv .2) (fits t) row (r .party-row .kept .1 .1 .1 .1 .1 .1 .1 .1 .1 .1 .1 .1 .0))
 
 same-length : tie.Need-same-length Inv-loop μ-loop
-same-length c = let k = c .before in k .loop .inv .2 .long ∙ sym (whole (k .before))
+same-length c = let k = c .before .before in k .loop .inv .2 .long ∙ sym (whole (k .before .before))
 
 returns : tie.Need-returns Inv-loop μ-loop
 returns c =
-    let k = c .before in
+    let k = c .before .before in
     let e : k .loop .i ≡ start k .args .shape .parties = omega arith in
     stacking-all (rw e at (k .loop .inv .2)) (omega arith)
+
+row-start : tie.Need-mul-a Inv-loop μ-loop
+row-start c = let t = c .before .before .before .before .before in omega (arith, fits t, bound (t .before))
+
+row-end : tie.Need-add-b Inv-loop μ-loop
+row-end c = let t = c .before .before .before .before .before in omega (arith, fits t, bound (t .before))
+
+part-end : tie.Need-part-party-row-end Inv-loop μ-loop
+part-end c = let t = c .before .before .before .before .before .before in omega (arith, fits t, t .before .loop .inv .2 .long)
+
+add-i : tie.Need-add-i Inv-loop μ-loop
+add-i c = let t = c .before .before .before .before .before .before .before .before .before .before in omega (arith, byte t)
 
 pub seed-rows-spec : {M : Type 1} → statement M
 seed-rows-spec =
     tie.close
-    (tie.spec Inv-loop μ-loop (λ c κs. search needs) (λ c. search needs) offset-requires (λ c κs. search needs) loop-holds (λ c. search needs)
-    (λ c. search needs) (λ c. omega (arith, fits c, bound (c .before))) (λ c. omega (arith, fits c, bound (c .before))) (λ c. search needs)
-    (λ c. search needs) (λ c. search needs) (λ c. search needs) (λ c. search needs)
-    (λ c. omega (arith, small (c .before .before), c .before .before .loop .inv .1)) (λ c. search needs) (λ c. search needs)
-    (λ c. omega (arith, fits (c .before .before), c .before .before .before .loop .inv .2 .long)) seed-row-requires add-i
+    (tie.spec Inv-loop μ-loop (λ c κs. search needs) (λ c. search needs) offset-requires (λ c κs. search needs)
+    (λ c. search needs) (λ c. search needs) (λ c. small c) loop-holds
+    (λ c. omega (arith, byte c)) (λ c. omega (arith, byte c)) (λ c. search needs) (λ c. search needs) (λ c. search needs) (λ c. search needs) hash-requires
+    row-start row-end (λ c. search needs) (λ c. search needs) part-end party-row-requires add-i
     (λ c. search needs) loop-again same-length returns)

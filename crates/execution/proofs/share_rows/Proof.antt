@@ -1,5 +1,5 @@
 -- `execution::share_rows` meets its contract: the numbers that all parties have in common are right. Assumes nothing.
-use mathlib.Core.Path.{refl, ap, _∙_}
+use mathlib.Core.Path.{refl, ap}
 use native.Mathlib.Omega.{arith}
 use lib.ListN.{length, take, drop}
 use borrow.Author.Needs.{needs}
@@ -24,7 +24,7 @@ mul-requires c κs =
 
 seed-rows-requires : tie.Need-seed-rows-requires
 seed-rows-requires c κs =
-    let l = c .before .before .before .before .before .before .before .before .before .before .before .before in
+    let l = c .before .before .before .before .before .before .before .before .before .before .before in
     let f = l .before .before .before in
     let t = f .before .before .before in
     let p = t .before .before .before .before .before .before .before .before .before .before .before .pre in (
@@ -46,10 +46,10 @@ seed-rows-requires c κs =
 returns : tie.Need-returns
 returns c =
     let r = c .before .before in
-    let m = r .before .before .before .before .before .before in
+    let m = r .before .before .before .before .before in
     let second = m .before in
-    let first = second .before .before in
-    let l = first .before .before .before .before in
+    let first = second .before in
+    let l = first .before .before .before .before .before in
     let f = l .before .before .before in
     let t = f .before .before .before in
     let k = t .before .before .before .before in
@@ -59,15 +59,15 @@ returns c =
     let known =
     right v (a .first .now) (a .product .now) (a .second) (s .pre .8) (l .load .ensures) (f .far-values .ensures) (first .sum .ensures)
     (second .sum2 .ensures) (m .mul .ensures) (t .tables2 .ensures .1) (t .tables2 .ensures .0) in
-    r .seed-rows .ensures
-    ∙ rows-right v (a .first .now) (a .product .now) (a .second) (s .pre .8) (a .salt .now) (a .e) (a .seeds .now) (s .pre .3)
-    (bytes-of (k .before .before .before .before .shared-slice-known3 .given)) (bytes-of (k .before .before .before .shared-slice-known4 .given))
-    (bytes-of (k .before .before .shared-slice-known5 .given)) (bytes-of (k .shared-slice-known7 .given)) known
+    rows-right v (a .first .now) (a .product .now) (a .second) (s .pre .8) (a .salt .now) (a .e) (a .seeds .now) (a .front .now) (a .key .now)
+    (a .inverse .now) (s .pre .3) (bytes-of (k .before .before .before .before .shared-slice-known3 .given))
+    (bytes-of (k .before .before .before .shared-slice-known4 .given)) (bytes-of (k .before .before .shared-slice-known5 .given))
+    (bytes-of (k .shared-slice-known7 .given)) known (r .seed-rows .ensures)
 
 pub share-rows-spec : {M : Type 1} → statement M
 share-rows-spec =
     tie.close
     (tie.spec (λ c. search needs) (λ c. search needs) (λ c. search needs) (λ c κs. search needs) (λ c. search needs) (λ c κs. search needs)
-    (λ c. search needs) load-requires (λ c. search needs) (λ c. search needs) (λ c. search needs) (λ c κs. search needs) (λ c. search needs)
-    (λ c κs. search needs) mul-requires (λ c. search needs) (λ c. search needs) (λ c. search needs) (λ c. search needs) (λ c. search needs)
+    (λ c. search needs) load-requires (λ c. search needs) (λ c. search needs) (λ c. search needs) (λ c. search needs) (λ c κs. search needs)
+    (λ c κs. search needs) mul-requires (λ c. search needs) (λ c. search needs) (λ c. search needs) (λ c. search needs)
     seed-rows-requires (λ c. search needs) returns)

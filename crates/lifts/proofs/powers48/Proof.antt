@@ -1,6 +1,6 @@
 -- `lifts::powers48` answers the powers of y: the two lists, computed, are one. Assumes nothing.
 use mathlib.Core.Path.{refl}
-use Rattle.field.specs.Wide48.{powers48}
+use Rattle.wide48.specs.Wide48.{powers48}
 use Rattle.lifts.proofs.powers48.Statement.{statement}
 use Rattle.lifts.proofs.powers48.Tie as tie
 

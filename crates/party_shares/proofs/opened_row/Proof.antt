@@ -50,9 +50,9 @@ returns c =
     let e = t .tape-part .ensures in
     let h = l .load .ensures in
     put-both (10 * w) (length d - 10 * w) d
-    (first .opened-a .ensures ∙ a-worked v (a .first .now) (a .tables .now) (a .last) (a .tape .now) e h (a .inputs .now))
+    (a-worked v (a .first .now) (a .tables .now) (a .last) (a .tape .now) e h (a .inputs .now) (first .opened-a .ensures))
     (length-numbers w (a .shape .m1) _ ∙ by-ten v w)
-    (second .opened-b .ensures ∙ b-worked v (a .first .now) (a .tables .now) (a .last) (a .tape .now) e h (a .inverses .now))
+    (b-worked v (a .first .now) (a .tables .now) (a .last) (a .tape .now) e h (a .inverses .now) (second .opened-b .ensures))
     (omega (arith, s .pre .6))
 
 pub opened-row-spec : {M : Type 1} → statement M

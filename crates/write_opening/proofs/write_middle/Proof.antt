@@ -1,98 +1,128 @@
 -- `write_opening::write_middle` meets its contract: each call writes the next field, and what stands before it is carried along. Assumes nothing.
 use mathlib.Core.Path.{_≡_, refl, _∙_}
-use mathlib.Core.List.{_++_, append-assoc}
-use Prim.Native.Nat.{ℕ, _+_, _*_}
+use mathlib.Core.List.{List, _++_}
+use Prim.Native.Nat.{ℕ, _+_, _*_, _^_, _<_, _≤_}
 use native.Mathlib.Omega.{arith}
-use lib.ListN.{length}
-use borrow.Author.Needs.{needs}
+use lib.ListN.{length, take}
 use Rattle.slices.specs.Numbers.{bytesOf, length-bytesOf}
-use Rattle.slices.proofs.Put.{Wrote, wrote-none, wrote-more}
+use Rattle.slices.proofs.Put.{Wrote, wrote-more}
 use Rattle.sets.specs.Bounds.{by-ten, by-points}
-use Rattle.write_opening.proofs.Laws.{wrote-whole}
+use Rattle.write_opening.proofs.Laws.{wrote-here, placed5}
 use Rattle.write_opening.proofs.write_middle.Statement.{statement}
 use Rattle.write_opening.proofs.write_middle.Tie as tie
 
--- where the fields end
+-- the fields and where they begin
 module _ (s : tie.Start) where
   abbrev wide : ℕ
   wide = s .args .shape .wide
 
-  first-long : length (s .args .first .now) ≡ 10 * wide
-  first-long = s .pre .3 ∙ by-ten (s .pre .0) wide
+  abbrev at : ℕ
+  at = s .args .at
 
-  product-long : length (s .args .product .now) ≡ 21 * wide
-  product-long = s .pre .4 ∙ by-points (s .pre .0) wide
+  abbrev out : List ℕ
+  out = s .args .out .now
 
-  out-long : length (s .args .out .now) ≡ 216 + 32 * wide
-  out-long = s .pre .5
+  abbrev key : List ℕ
+  key = s .args .key .now
+
+  abbrev inverse : List ℕ
+  inverse = s .args .inverse .now
+
+  abbrev first : List ℕ
+  first = s .args .first .now
+
+  abbrev product : List ℕ
+  product = s .args .product .now
+
+  abbrev second : List ℕ
+  second = bytesOf wide (s .args .second)
+
+  abbrev p : ℕ
+  p = at + 16 + 200 + length first
+
+  abbrev q : ℕ
+  q = p + length product
+
+  ends : (p ≡ at + 216 + 10 * wide) × (q ≡ at + 216 + 31 * wide)
+  ends =
+      let f : length first ≡ 10 * wide = s .pre .3 ∙ by-ten (s .pre .0) wide in
+      let g : length product ≡ 21 * wide = s .pre .4 ∙ by-points (s .pre .0) wide in
+      (omega (arith, f), omega (arith, f, g))
+
+  room : q + wide ≤ length out
+  room = omega (arith, ends .1, s .pre .5)
+
+  begun : at ≤ length out
+  begun = omega (arith, room)
 
 -- the entry, seen from after each call, and what is written there
 module _ (c : tie.After-copy-at) where
   abbrev s1 : tie.Start
   s1 = c .before .before .before .before .before .before .before
 
-  w1 : Wrote (s1 .args .out .now) (s1 .args .key .now) 16 (c .copy-at .last .0)
-  w1 = wrote-more _ (wrote-none _) (s1 .pre .1) (c .copy-at .ensures) (c .copy-at .kept .0)
+  w1 : Wrote (out s1) (take (at s1) (out s1) ++ key s1) (at s1 + 16) (c .copy-at .last .0)
+  w1 = wrote-more (key s1) (wrote-here (at s1) (out s1) (begun s1)) (s1 .pre .1) (c .copy-at .ensures) (c .copy-at .kept .0)
 
 module _ (c : tie.After-copy-at2) where
   abbrev s2 : tie.Start
   s2 = s1 (c .before .before .before .before)
 
-  w2 : Wrote (s2 .args .out .now) (s2 .args .key .now ++ s2 .args .inverse .now) 216 (c .copy-at2 .last .0)
-  w2 = wrote-more _ (w1 (c .before .before .before .before)) (s2 .pre .2) (c .copy-at2 .ensures) (c .copy-at2 .kept .0)
+  w2 : Wrote (out s2) ((take (at s2) (out s2) ++ key s2) ++ inverse s2) (at s2 + 16 + 200) (c .copy-at2 .last .0)
+  w2 = wrote-more (inverse s2) (w1 (c .before .before .before .before)) (s2 .pre .2) (c .copy-at2 .ensures) (c .copy-at2 .kept .0)
 
 module _ (c : tie.After-copy-at3) where
   abbrev s3 : tie.Start
   s3 = s2 (c .before .before .before .before)
 
-  w3 : Wrote (s3 .args .out .now) ((s3 .args .key .now ++ s3 .args .inverse .now) ++ s3 .args .first .now) (216 + length (s3 .args .first .now))
-      (c .copy-at3 .last .0)
-  w3 = wrote-more _ (w2 (c .before .before .before .before)) refl (c .copy-at3 .ensures) (c .copy-at3 .kept .0)
+  w3 : Wrote (out s3) (((take (at s3) (out s3) ++ key s3) ++ inverse s3) ++ first s3) (p s3) (c .copy-at3 .last .0)
+  w3 = wrote-more (first s3) (w2 (c .before .before .before .before)) refl (c .copy-at3 .ensures) (c .copy-at3 .kept .0)
 
 module _ (c : tie.After-copy-at4) where
   abbrev s4 : tie.Start
   s4 = s3 (c .before .before .before .before)
 
-  w4 : Wrote (s4 .args .out .now) (((s4 .args .key .now ++ s4 .args .inverse .now) ++ s4 .args .first .now) ++ s4 .args .product .now)
-      (216 + length (s4 .args .first .now) + length (s4 .args .product .now)) (c .copy-at4 .last .0)
-  w4 = wrote-more _ (w3 (c .before .before .before .before)) refl (c .copy-at4 .ensures) (c .copy-at4 .kept .0)
+  w4 : Wrote (out s4) ((((take (at s4) (out s4) ++ key s4) ++ inverse s4) ++ first s4) ++ product s4) (q s4) (c .copy-at4 .last .0)
+  w4 = wrote-more (product s4) (w3 (c .before .before .before .before)) refl (c .copy-at4 .ensures) (c .copy-at4 .kept .0)
 
 module _ (c : tie.After-store) where
   abbrev s5 : tie.Start
   s5 = s4 (c .before .before .before .before)
 
-  w5 : Wrote (s5 .args .out .now)
-      ((((s5 .args .key .now ++ s5 .args .inverse .now) ++ s5 .args .first .now) ++ s5 .args .product .now) ++ bytesOf (wide s5) (s5 .args .second))
-      (216 + length (s5 .args .first .now) + length (s5 .args .product .now) + wide s5) (c .store .last .0)
-  w5 = wrote-more _ (w4 (c .before .before .before .before)) (length-bytesOf (wide s5) (s5 .args .second)) (c .store .ensures) (c .store .kept .0)
+  w5 : Wrote (out s5) (((((take (at s5) (out s5) ++ key s5) ++ inverse s5) ++ first s5) ++ product s5) ++ second s5) (q s5 + wide s5)
+      (c .store .last .0)
+  w5 =
+      wrote-more (second s5) (w4 (c .before .before .before .before)) (length-bytesOf (wide s5) (s5 .args .second)) (c .store .ensures)
+      (c .store .kept .0)
 
-add-q : tie.Need-add-q
-add-q c = let s = c .before .before .before .before .before in omega (arith, first-long s, product-long s, out-long s)
+-- what has to fit into a number
+module _ (c : tie.After-slice-known) where
+  abbrev s0 : tie.Start
+  s0 = c .before .before .before .before .before
 
-copy-at-requires-3 : tie.Need-copy-at-requires-3
-copy-at-requires-3 c κs =
-    let k = c .before .before .before in
-    omega (arith, w2 k .long, first-long (s2 k), out-long (s2 k))
+  fits : q s0 + wide s0 < 2 ^ 64
+  fits = omega (arith, room s0)
 
-copy-at-requires-4 : tie.Need-copy-at-requires-4
-copy-at-requires-4 c κs =
-    let k = c .before .before .before in
-    omega (arith, w3 k .long, first-long (s3 k), product-long (s3 k), out-long (s3 k))
-
-store-requires : tie.Need-store-requires
-store-requires c κs =
-    let k = c .before .before .before in
-    let s = s4 k in
-    (omega (arith, s .pre .0 .wide-most), omega (arith, w4 k .long, first-long s, product-long s, out-long s))
+add-result : tie.Need-add-result
+add-result c =
+    let e = c .before .before .before .before .before .before .before .before .before .before .before .before .before .before .before .before in
+    omega (arith, fits (e .before .before .before .before .before))
 
 returns : tie.Need-returns
 returns c =
-    let k = c .before .before in
+    let k = c .before .before .before in
     let s = s5 k in
-    wrote-whole (w5 k) (omega (arith, first-long s, product-long s, out-long s)) ∙ simp append-assoc
+    let w = placed5 (begun s) (key s) (inverse s) (first s) (product s) (second s) (w5 k) in
+    (w .0, w .1, omega (arith, ends s .1))
 
 pub write-middle-spec : {M : Type 1} → statement M
 write-middle-spec =
     tie.close
-    (tie.spec (λ c. search needs) add-q (λ c κs. search needs) (λ c κs. search needs) copy-at-requires-3 copy-at-requires-4 store-requires
-    (λ c. search needs) returns)
+    (tie.spec (λ c. omega (arith, fits c)) (λ c. omega (arith, fits c)) (λ c. omega (arith, fits c))
+    (λ c. omega (arith, fits c))
+    (λ c κs. let s = s0 (c .before) in omega (arith, room s, s .pre .1))
+    (λ c κs. let k = c .before .before .before in omega (arith, room (s1 k), s1 k .pre .2, w1 k .long))
+    (λ c κs. let k = c .before .before .before in omega (arith, room (s2 k), w2 k .long))
+    (λ c κs. let k = c .before .before .before in omega (arith, room (s3 k), w3 k .long))
+    (λ c κs. let k = c .before .before .before in (omega (arith, s4 k .pre .0 .wide-most), omega (arith, room (s4 k), w4 k .long)))
+    add-result
+    (λ c. w5 (c .before .before .before) .long) returns)

@@ -1,2 +1,0 @@
--- An answer as C is given it.
-pub mod Code

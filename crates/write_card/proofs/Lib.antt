@@ -1,0 +1,2 @@
+-- The laws that the proof cites.
+mod Laws
