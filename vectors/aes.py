@@ -74,7 +74,4 @@ for key, plaintext in pairs:
     output, scheduled, entered = encrypt(key, plaintext)
     assert bytes(output) == ciphertext
     given = sum(scheduled + entered, [])
-    print(hexed(key), hexed(plaintext), hexed(ciphertext), given.index(0) if 0 in given else 200)
-output, scheduled, entered = encrypt(*pairs[0])
-for word, state in zip(scheduled, entered):
-    print(hexed(word), hexed(state))
+    print(hexed(ciphertext), hexed(given), given.index(0) if 0 in given else 200)

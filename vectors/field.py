@@ -75,8 +75,9 @@ def dot(u, v):
     return r
 
 
-def words(values):
-    return ''.join(' %x' % v for v in values)
+def told(values):
+    for v in values:
+        print('%x' % v)
 
 
 def main():
@@ -85,18 +86,18 @@ def main():
             (f32, 0x10000, 0x10000), (f32, 0x80000000, 2), (f32, 0x12345678, 0x9abcdef0), (f32, 0xffffffff, 0xffffffff), (f32, 0, 0xffffffff),
             (f48, 0x1000000, 0x1000000), (f48, 0x800000000000, 2), (f48, 0x123456789abc, 0xfedcba987654),
             (f48, 0xffffffffffff, 0xffffffffffff)):
-        print('%d bits: %x * %x = %x' % (f.bits, a, b, f.mul(a, b)))
+        told([f.mul(a, b)])
     for b in (0, 1, 2, 0x53, 0x80, 0xff):
-        print('byte %x: inverse %x, lift %x' % (b, byte.inverse(b), lift(powers, b)))
+        told([byte.inverse(b), lift(powers, b)])
     for f, x in ((f32, 0), (f32, 20), (f32, 33), (f32, 40), (f32, 41), (f32, 0x12345678), (f48, 20), (f48, 0x123456789abc)):
         for n in (21, 41):
-            print('%d bits, %d points, at %x%s' % (f.bits, n, x, words(f.lagrange(n, x))))
+            told(f.lagrange(n, x))
     for x in (20, 0x12345678):
         s = [(i * 73 + 5) % 256 for i in range(200)]
         c = f32.lagrange(21, x)
-        print('lifted bytes, at %x%s' % (x, words(dot([lift(powers, s[j + 10 * k]) for k in range(20)], c) for j in range(10))))
+        told(dot([lift(powers, s[j + 10 * k]) for k in range(20)], c) for j in range(10))
     for x in (7, 0xfedcba98):
-        print('41 values, at %x %x' % (x, dot(f32.lagrange(41, 0x89abcdef), f32.lagrange(41, x))))
+        told([dot(f32.lagrange(41, 0x89abcdef), f32.lagrange(41, x))])
 
 
 if __name__ == '__main__':

@@ -1,86 +1,42 @@
-#!/usr/bin/env python3
-"""What crates/vectors_opening reads and writes: python3 vectors/opening.py ORACLE, from the repository's root
+"""Executions that crates/vectors_calls opens, and openings that it checks, for vectors/calls.py. The answers are the oracle's open_execution's and
+check_opening's.
 
-ORACLE is the directory of oracle.py, an implementation of document 01 in plain Python that was written apart from this repository, with the vectors
-that it made: keys, openings, and altered openings and public keys, each with the answer that its tamper.py works out by rule. The answers here are
-open_execution's and check_opening's, and are compared with the vectors' own. How work and output end is document 01's rule.
-
-The program's source says what stands in a line. First come the three vectors: each opening is made, checked, and checked altered, and for one of
-them each two reasons to refuse it are put together. Then two openings of the greatest and the least numbers; then the calls that open nothing, for
-one reason and for two.
+First come the three vectors: each opening is made, checked, and checked altered, and for one of them each two reasons to refuse it are put together.
+Then two openings of the greatest and the least numbers; then the calls that open nothing, for one reason and for two.
 """
 import hashlib
 import json
 import os
 import sys
 
-sys.dont_write_bytecode = True
-sys.path.insert(0, sys.argv[1])
-import oracle  # noqa: E402
-import tamper  # noqa: E402
+import oracle
+import tamper
+from lines import WORK, WORK_ROOM, call, told
 
-OPENING, WORK = oracle.BASE.opening_len, oracle.WORK_LEN
-# the program lends the first part of so much
-OUTPUT_ROOM, WORK_ROOM = 2600, 65600
-read, written = [], []
-
-
-def put(kind, line, *answer):
-    read.append(kind + line.hex())
-    if answer:
-        written.append(' '.join([kind, *map(str, answer)]))
-
-
-def numbers(*pairs):
-    """Each with its count of bytes, low byte first."""
-    return b''.join(n.to_bytes(size, 'little') for size, n in pairs)
-
-
-def told(answer):
-    return (0, 0) if answer[0] == 'accepted' else answer[1:]
-
-
-def work_after(number):
-    """Where its zeros end, and where its ee."""
-    return WORK if number in (0, 13, 14, 15) else 0, WORK_ROOM
+OPENING = oracle.BASE.opening_len
+# the most of the output that is lent
+OUTPUT = 2600
 
 
 class Lent:
-    """What the lines so far have said. Each input has a byte more than the calls want."""
+    """What is lent until it is changed. Each input has a byte more than the calls want."""
 
     def keys(self, key, public_key):
         self.key, self.public_key = key + b'\x55', public_key + b'\0'
-        put('k', self.key + self.public_key)
 
     def seeds(self, salt, root, first):
         self.salt, self.root, self.first = salt + b'\x66', root + b'\x77', first + b'\x88'
-        put('s', self.salt + self.root + self.first)
 
     def open(self, e, second, hidden, k=16, p=32, s=32, r=16, f=40, output=OPENING, work=WORK):
-        answer = oracle.open_execution(
-            self.key[:k], self.public_key[:p], self.salt[:s], self.root[:r], e, self.first[:f], second, hidden, output, work)
-        verdict, made = told(answer), []
-        if verdict == (0, 0):
+        key, public_key, salt, root, first = self.key[:k], self.public_key[:p], self.salt[:s], self.root[:r], self.first[:f]
+        answer = oracle.open_execution(key, public_key, salt, root, e, first, second, hidden, output, work)
+        if told(answer) == (0, 0):
             self.opening = answer[1]
-            made = [self.opening.hex()]
-        put('o', numbers((1, k), (1, p), (1, s), (1, r), (1, f), (2, e), (4, second), (2, hidden), (2, output), (3, work)),
-            *verdict, *work_after(verdict[0]), OUTPUT_ROOM, *made)
-        return verdict
+        return call('o', answer, output, work, e, hidden, second, key=key, public_key=public_key, salt=salt, seeds=root, message=first)
 
     def verify(self, changes=(), p=32, work=WORK):
-        altered = tamper.apply(self.opening, changes)
-        # a byte more, and what is added to four bytes, twice
-        now, added = self.opening + b'\0', b''
-        for _ in range(2):
-            differ = [i for i, (a, b) in enumerate(zip(now, altered)) if a != b]
-            at = min(differ[0], OPENING - 3) if differ else 0
-            new = (altered + now[len(altered):])[at:at + 4]
-            added += numbers((2, at)) + oracle.xor_bytes(now[at:at + 4], new)
-            now = now[:at] + new + now[at + 4:]
-        assert now[:len(altered)] == altered
-        verdict = told(oracle.check_opening(self.public_key[:p], altered, work))
-        put('v', numbers((1, p), (2, len(altered)), (3, work)) + added, *verdict, *work_after(verdict[0]))
-        return verdict
+        public_key, altered = self.public_key[:p], tamper.apply(self.opening, changes)
+        return call('c', oracle.check_opening(public_key, altered, work), work=work, public_key=public_key, file=altered)
 
 
 lent = Lent()
@@ -143,7 +99,7 @@ KEY, PUBLIC_KEY = (bytes.fromhex(vectors[0][field]) for field in ('key', 'public
 FIRST = vectors[0]['openings'][0]
 
 # lengths of output and work
-ROOMS = (OPENING, WORK), (OUTPUT_ROOM, WORK_ROOM), (OPENING + 1, WORK), (OPENING, WORK + 1)
+ROOMS = (OPENING, WORK), (OUTPUT, WORK_ROOM), (OPENING + 1, WORK), (OPENING, WORK + 1)
 for v in vectors:
     key = bytes.fromhex(v['key'])
     lent.keys(key, bytes.fromhex(v['public_key']))
@@ -169,7 +125,7 @@ for byte, e, second, hidden in (0xff, 40, 2 ** 32 - 1, 0), (0, 0, 20, 15):
 
 # ---- nothing is opened
 
-GOOD = {'e': FIRST['e'], 'second': FIRST['R'], 'hidden': FIRST['hidden'], 'output': OUTPUT_ROOM, 'work': WORK_ROOM}
+GOOD = {'e': FIRST['e'], 'second': FIRST['R'], 'hidden': FIRST['hidden'], 'output': OUTPUT, 'work': WORK_ROOM}
 # two reasons are put together by their first values
 REASONS = [
     (1, 'k', (15, 17, 0)), (2, 'p', (31, 33, 0)), (4, 's', (31, 33, 0)), (4, 'f', (39, 41, 0)), (5, 'r', (15, 17, 0)),
@@ -221,9 +177,3 @@ for at in 0, 16, 31:
     refuse_key(KEY, tamper.apply(PUBLIC_KEY, [tamper.flip(PUBLIC_KEY, at)]), (12, 0))
 refuse_key(bytes.fromhex(vectors[1]['key']), PUBLIC_KEY, (12, 0))
 refuse_key_last()
-
-# the program reads so many lines
-assert len(read) < 2000
-for name, lines in ('stdin', read), ('stdout', written):
-    with open(os.path.join('crates/vectors_opening', name), 'w') as out:
-        out.writelines(line + '\n' for line in lines)

@@ -1,72 +1,27 @@
-#!/usr/bin/env python3
-"""What crates/vectors_signature reads and writes: python3 vectors/signature.py ORACLE, from the repository's root
-
-ORACLE is the directory of oracle.py, an implementation of document 01 in plain Python that was written apart from this repository, with the vectors
-that it made: keys, signatures, and altered signatures and inputs, each with the answer that its tamper.py works out by rule. The answers here are
-seal's and check_seal's, and are compared with the vectors' own. How output and work end is document 01's rule. The program's source says what stands
-in a line. Of the second and third vector only the first three altered signatures are taken.
+"""Messages that crates/vectors_calls signs, and signatures that it checks, for vectors/calls.py. The answers are the oracle's seal's and
+check_seal's. Of the second and third vector only the first three altered signatures are taken.
 """
 import json
 import os
 import sys
 
-sys.dont_write_bytecode = True
-sys.path.insert(0, sys.argv[1])
-import oracle  # noqa: E402
-import tamper  # noqa: E402
+import oracle
+import tamper
+from lines import OUTPUT_ROOM, WORK, WORK_ROOM, call
 
-WORK, SIGNATURE, MESSAGE = oracle.WORK_LEN, 19776, 32768
-WORK_ROOM, OUTPUT_ROOM = 65600, 19800
-# where what is lent stands
-AT = {'key': 0, 'public_key': 17, 'salt': 50, 'seeds': 83, 'message': 740, 'signature': 33509}
-lent = bytearray(53286)
-read, written = [], []
-
-
-def numbers(*pairs):
-    """Each with its count of bytes, low byte first."""
-    return b''.join(n.to_bytes(size, 'little') for size, n in pairs)
-
-
-def lend(name, value):
-    """Of what is lent only what changes is written, from its first byte to its last."""
-    at = AT[name]
-    differ = [i for i, byte in enumerate(value) if lent[at + i] != byte]
-    if differ:
-        a, b = at + differ[0], at + differ[-1] + 1
-        lent[at:at + len(value)] = value
-        read.append('i' + (numbers((3, a), (3, b - a)) + lent[a:b]).hex())
-
-
-def told(answer):
-    return (0, 0) if answer[0] == 'accepted' else answer[1:]
+SIGNATURE, MESSAGE = 19776, 32768
 
 
 def verify(public_key, message, signature, work=WORK):
-    lend('public_key', public_key)
-    lend('message', message)
-    lend('signature', signature)
-    verdict = told(oracle.check_seal(public_key, message, signature, work))
-    read.append('v' + numbers((1, len(public_key)), (3, len(message)), (3, len(signature)), (3, work)).hex())
-    zeros = WORK if verdict[0] in (0, 15, 16, 17) else 0
-    written.append(' '.join(map(str, ('v', *verdict, zeros, WORK_ROOM))))
-    return verdict
+    answer = oracle.check_seal(public_key, message, signature, work)
+    return call('v', answer, public_key=public_key, message=message, file=signature, work=work)
 
 
 def sign(key, public_key, message, salt, seeds, output=SIGNATURE, work=WORK):
     """The signature, or number and place."""
-    for name, value in ('key', key), ('public_key', public_key), ('message', message), ('salt', salt), ('seeds', seeds):
-        lend(name, value)
-    made = oracle.seal(key, public_key, message, salt, seeds, output, work)
-    if made[0] == 'accepted':
-        lend('signature', made[1])
-    read.append('s' + numbers((1, len(key)), (1, len(public_key)), (1, len(salt)), (2, len(seeds)), (3, len(message)), (3, output), (3, work)).hex())
-    if made[0] == 'accepted':
-        written.append(' '.join(map(str, ('s', 0, 0, WORK, WORK_ROOM, OUTPUT_ROOM, 'same'))))
-        return made[1]
-    verdict = told(made)
-    written.append(' '.join(map(str, ('s', *verdict, 0, WORK_ROOM, OUTPUT_ROOM))))
-    return verdict
+    answer = oracle.seal(key, public_key, message, salt, seeds, output, work)
+    verdict = call('s', answer, output, work, key=key, public_key=public_key, message=message, salt=salt, seeds=seeds)
+    return answer[1] if verdict == (0, 0) else verdict
 
 
 def expected(item):
@@ -137,8 +92,3 @@ assert sign(zero, plaintext + bytes(16), message, salt[:31], seeds[:655], short,
 assert sign(zero, plaintext + bytes(16), message, salt, seeds[:655], short, 0) == (5, 0)
 assert sign(zero, plaintext + bytes(16), message, salt, seeds, short, 0) == (6, 0)
 assert sign(zero, plaintext + bytes(16), message, salt, seeds, SIGNATURE, 0) == (7, 0)
-
-with open('crates/vectors_signature/stdin', 'w') as f:
-    f.write(''.join(line + '\n' for line in read))
-with open('crates/vectors_signature/stdout', 'w') as f:
-    f.write(''.join(line + '\n' for line in written))

@@ -1,25 +1,10 @@
 // The input of SHAKE128 (FIPS 202, section 6.2) as a stream: absorb in pieces, finish.
 use stream::Sponge;
 ghost use mathlib.Core.Path.{_≡_};
-ghost use Prim.Native.Nat.{_+_, _≤_};
-ghost use lib.ListN.{length};
-ghost use Rattle.slices.specs.Lists.{part};
-ghost use Rattle.slices.specs.Numbers.{number};
 ghost use Rattle.stream.specs.Stream.{absorbed, finished};
 
-// The number of w bytes at src[j]. Eight of them have a call of their own, which compiles to one load.
-fn read(src: &[u8], j: usize, w: usize) -> u64
-    requires { ⌜ (w ≤ 8) × (j + w ≤ length (now src)) ⌝ }
-    ensures { λ r. ⌜ r ≡ number (part j w (now (src .entry))) ⌝ }
-{
-    if w == 8 {
-        numbers::load(src, j, 8)
-    } else {
-        numbers::load(src, j, w)
-    }
-}
-
-// The bytes of src absorbed, at each turn as many as the lane has room for.
+// The bytes of src absorbed, at each turn as many as the lane has room for. Eight of them have a call of their own,
+// which compiles to one load.
 pub fn absorb(s: Sponge, src: &[u8]) -> Sponge
     ensures { λ r. ⌜ r ≡ absorbed s (now (src .entry)) ⌝ }
 {
@@ -34,8 +19,12 @@ pub fn absorb(s: Sponge, src: &[u8]) -> Sponge
         }
         let k = at / 8;
         let w = stream::piece(at, src.len() - j);
-        let x = read(src, j, w);
-        lanes[k] = lanes[k] ^ (x << (8 * (at % 8)));
+        let x = if w == 8 {
+            numbers::load(src, j, 8)
+        } else {
+            numbers::load(src, j, w)
+        };
+        lanes[k] ^= x << (8 * (at % 8));
         at += w;
         j += w;
     }
@@ -54,8 +43,8 @@ pub fn finish(s: Sponge) -> Sponge
         at = 0;
     }
     let k = at / 8;
-    lanes[k] = lanes[k] ^ (0x1f << (8 * (at % 8)));
-    lanes[20] = lanes[20] ^ 0x8000_0000_0000_0000;
+    lanes[k] ^= 0x1f << (8 * (at % 8));
+    lanes[20] ^= 0x8000_0000_0000_0000;
     let t = permutation::permute(lanes);
     Sponge { lanes: t, at: 0 }
 }

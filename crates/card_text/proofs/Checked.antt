@@ -34,6 +34,16 @@ sizes-room d z l = (omega (arith, ap length z), omega (arith, ap total z))
 abbrev pub endOf : List ℕ → ℕ
 endOf text = (length text - 44) / 2
 
+-- where the parts of its bytes lie
+pub record Within (text bytes : List ℕ) : Type 0 where
+  pub lines : 44 ≤ length text
+  pub signature : 19776 ≤ endOf text
+  pub key-most : 32 ≤ length bytes
+  pub message : 32 ≤ endOf text - 19776
+  pub message-most : endOf text - 19776 ≤ length bytes
+  pub signature-first : endOf text - 19776 ≤ endOf text
+  pub most : endOf text ≤ length bytes
+
 module _ (text : List ℕ) {sizes : List ℕ} {a : Answer} (z : sizes ≡ cardSizes baseScheme messageLimit)
     (e : a ≡ checkLines 2 sizes 1 text Accepted) where
   told : a ≡ form text
@@ -47,11 +57,19 @@ module _ (text : List ℕ) {sizes : List ℕ} {a : Answer} (z : sizes ≡ cardSi
     held : form text ≡ Accepted
     held = sym told ∙ h
 
-    pub card-fits : (44 ≤ length text) × (19776 + 32 ≤ endOf text) × (endOf text ≤ 52576)
-    card-fits =
+    pub within : {bytes : List ℕ} → length bytes ≡ 52576 → Within text bytes
+    within size =
         let l = text-long text held in
         let m = message-long text held in
-        (omega arith, omega arith, omega arith)
+        record {
+          lines = omega arith;
+          signature = omega arith;
+          key-most = omega arith;
+          message = omega arith;
+          message-most = omega arith;
+          signature-first = omega arith;
+          most = omega arith;
+        }
 
     pub card-checked : (work bytes d : List ℕ) (end start : ℕ) {r : Answer} {left : List ℕ} → end ≡ endOf text → start ≡ end - 19776
         → bytes ≡ outputAfter a (decodedLines (length sizes) text) d

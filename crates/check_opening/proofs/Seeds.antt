@@ -2,12 +2,14 @@
 use mathlib.Core.Path.{_≡_, refl, sym, ap, ap₂, _∙_}
 use mathlib.Core.Bool.{_||_}
 use mathlib.Core.List.{List}
-use Prim.Native.Nat.{ℕ, _*_, _<_, _≤_}
+use Prim.Native.Nat.{ℕ, _+_, _-_, _*_, _^_, _<_, _≤_}
 use native.Mathlib.Omega.{arith}
 use lib.Dec.{eqb}
-use lib.ListN.{length}
+use lib.ListN.{length, drop}
+use borrow.Rule.Slice.PartMut.{putMid}
 use Rattle.slices.specs.Lists.{row, same}
 use Rattle.slices.specs.Layout.{total}
+use Rattle.slices.proofs.Rows.{row-front}
 use Rattle.shake.specs.Shake128.{shake128}
 use Rattle.compare.specs.Lowest.{lowest, lowest-cong}
 use Rattle.banquet.specs.declared.Shape.{Shape}
@@ -28,16 +30,22 @@ pub rows-fit : {S : Shape} {len : ℕ} → Valid S → len ≡ total (rowSizes S
 rows-fit v e = rw e (rows-most v)
 
 module _ {S : Shape} {publicKey t : List ℕ} {e second : ℕ} (g : Given S publicKey t e second) (siblings : List ℕ) (hidden : ℕ)
-    (long : length siblings ≡ S .depth * 16) {seeds : List ℕ}
-    (is : seeds ≡ nodeSeeds (shownLeaves shake128 (saltOf (aesScheme S) t) e (S .depth) 0 siblings hidden)) where
+    (long : length siblings ≡ S .depth * 16) {leaves : List ℕ}
+    (is : leaves ≡ nodeSeeds (shownLeaves shake128 (saltOf (aesScheme S) t) e (S .depth) 0 siblings hidden))
+    (leaves-long : length leaves ≡ 16 * 2 ^ (S .depth)) (n : ℕ) (d : List ℕ) where
   open Shape S using (parties, depth)
+
+  -- they are the front of an array
+  abbrev seeds : List ℕ
+  seeds = putMid 0 (n - 0) d leaves
 
   abbrev shown : ℕ → List ℕ
   shown = shownSeed (aesScheme S) t hidden siblings
 
   seed-is : (i : ℕ) → i < parties → row 16 i seeds ≡ shown i
   seed-is i l =
-      ap (row 16 i) is ∙ row-shown (saltOf (aesScheme S) t) e depth 0 siblings hidden long i (omega (arith, g .valid .leaves)) ∙ rw (g .e-is) refl
+      row-front 16 i leaves (drop (n - 0) d) (omega (arith, leaves-long, g .valid .leaves)) ∙ ap (row 16 i) is
+      ∙ row-shown (saltOf (aesScheme S) t) e depth 0 siblings hidden long i (omega (arith, g .valid .leaves)) ∙ rw (g .e-is) refl
 
   module _ {found : ℕ}
       (f : found ≡ lowest parties 0

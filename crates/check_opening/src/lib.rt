@@ -2,93 +2,19 @@
 use banquet::Answer;
 use banquet::Shape;
 ghost use mathlib.Core.Path.{_≡_};
-ghost use Prim.Native.Nat.{_*_, _^_, _≤_};
+ghost use Prim.Native.Nat.{_*_, _≤_};
 ghost use lib.ListN.{length};
 ghost use Rattle.slices.specs.Layout.{total};
-ghost use Rattle.shake.specs.Shake128.{shake128};
 ghost use Rattle.banquet.specs.Shape.{transcriptSizes};
 ghost use Rattle.banquet.specs.Sets.{aesScheme};
 ghost use Rattle.banquet.specs.Answer.{workAfter};
-ghost use Rattle.banquet.specs.Tree.{nodeSeeds, shownLeaves};
-ghost use Rattle.banquet.specs.Opening.{saltOf, secondOf, shownSeed, checkParties, checkOpening};
+ghost use Rattle.banquet.specs.Opening.{secondOf, shownSeed, checkParties, checkOpening};
 ghost use Rattle.banquet.specs.Calls.{verifyOpening};
 ghost use Rattle.sets.specs.Valid.{Valid};
 ghost use Rattle.scratch.specs.Scratch.{Scratch};
 ghost use Rattle.share_check.specs.Steps.{Given};
 
-// The seeds that the sibling seeds expand to.
-fn shown_seeds(
-    shape: Shape,
-    transcript: &[u8],
-    e: u8,
-    hidden: usize,
-    siblings: &[u8],
-    out: &mut [u8],
-)
-    requires { ⌜ Valid shape × (length (now transcript) ≡ total (transcriptSizes shape)) × (length (now siblings) ≡ shape .depth * 16)
-        × (length (now out) ≡ 16 * 2 ^ shape .depth) ⌝ }
-    ensures { λ _. ⌜ now (out .exit)
-        ≡ nodeSeeds (shownLeaves shake128 (saltOf (aesScheme shape) (now (transcript .entry))) e (shape .depth) 0 (now (siblings .entry)) hidden) ⌝ }
-{
-    let sizes = opening_sizes::transcript_sizes(shape);
-    shown::expand_shown(
-        shape.depth,
-        fields::field(&sizes, 0, transcript),
-        e,
-        0,
-        siblings,
-        hidden,
-        out,
-    );
-}
-
-// Numbers 13, 14 and 15, with scratch for the seeds.
-fn check_seeds(
-    shape: Shape,
-    public: &[u8],
-    transcript: &[u8],
-    e: u8,
-    second: u64,
-    hidden: usize,
-    siblings: &[u8],
-    seeds: &mut [u8],
-    work: &mut [u8],
-) -> Answer
-    requires { ⌜ Given shape (now public) (now transcript) e second × (length (now siblings) ≡ shape .depth * 16)
-        × (length (now seeds) ≡ 16 * 2 ^ shape .depth) × (65536 ≤ length (now work)) ⌝ }
-    ensures { λ r. ⌜ r
-        ≡ checkParties (aesScheme shape) (now (public .entry)) (now (transcript .entry)) hidden
-        (shownSeed (aesScheme shape) (now (transcript .entry)) hidden (now (siblings .entry))) ⌝ }
-    ensures { λ _. ⌜ Scratch (now (work .entry)) (now (work .exit)) ⌝ }
-{
-    shown_seeds(shape, transcript, e, hidden, siblings, seeds);
-    let end = shape.parties * 32;
-    let found = commitment_check::first_commitment(
-        shape,
-        transcript,
-        e,
-        hidden,
-        seeds,
-        &mut work[0..end],
-    );
-    if found < shape.parties {
-        return Answer::CommitmentDiffers(found as u8);
-    }
-    let len = sets::row_length(shape);
-    let all = 2 * (shape.parties * len);
-    share_check::check_rows(
-        shape,
-        public,
-        transcript,
-        e,
-        second,
-        hidden,
-        seeds,
-        &mut work[0..all],
-    )
-}
-
-// The same, with room for the seeds.
+// Numbers 13, 14 and 15, under the seeds that the sibling seeds expand to.
 fn check_parties(
     shape: Shape,
     public: &[u8],
@@ -106,18 +32,41 @@ fn check_parties(
         (shownSeed (aesScheme shape) (now (transcript .entry)) hidden (now (siblings .entry))) ⌝ }
     ensures { λ _. ⌜ Scratch (now (work .entry)) (now (work .exit)) ⌝ }
 {
-    let mut seeds = [0u8; 2048];
+    let sizes: &[usize] = &opening_sizes::transcript_sizes(shape);
     let end = sets::leaf_bytes(shape);
-    check_seeds(
+    let mut seeds = [0u8; 2048];
+    shown::expand_shown(
+        shape.depth,
+        fields::field(sizes, 0, transcript),
+        e,
+        0,
+        siblings,
+        hidden,
+        &mut seeds[0..end],
+    );
+    let leaves: &[u8] = &seeds;
+    let c = shape.parties * 32;
+    let found = commitment_check::first_commitment(
+        shape,
+        transcript,
+        e,
+        hidden,
+        leaves,
+        &mut work[0..c],
+    );
+    if found < shape.parties {
+        return Answer::CommitmentDiffers(found as u8);
+    }
+    let r = 2 * (shape.parties * sets::row_length(shape));
+    share_check::check_rows(
         shape,
         public,
         transcript,
         e,
         second,
         hidden,
-        siblings,
-        &mut seeds[0..end],
-        work,
+        leaves,
+        &mut work[0..r],
     )
 }
 
@@ -126,8 +75,7 @@ fn second_of(shape: Shape, transcript: &[u8]) -> u64
     requires { ⌜ Valid shape × (length (now transcript) ≡ total (transcriptSizes shape)) ⌝ }
     ensures { λ r. ⌜ r ≡ secondOf (aesScheme shape) (now (transcript .entry)) ⌝ }
 {
-    let sizes = opening_sizes::transcript_sizes(shape);
-    let at = fields::offset(&sizes, 8);
+    let at = fields::offset(&opening_sizes::transcript_sizes(shape), 8);
     numbers::load(transcript, at, shape.wide)
 }
 
@@ -173,8 +121,7 @@ pub fn check(shape: Shape, public: &[u8], opening: &[u8], work: &mut [u8]) -> An
     if public.len() != 32 {
         return Answer::PublicKeyLength;
     }
-    let sizes = opening_sizes::transcript_sizes(shape);
-    let end = fields::offset(&sizes, 12);
+    let end = fields::offset(&opening_sizes::transcript_sizes(shape), 12);
     let whole = end + 1 + 16 * shape.depth;
     if opening.len() != whole {
         return Answer::FileLength;

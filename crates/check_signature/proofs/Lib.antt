@@ -1,4 +1,5 @@
 -- The laws that the proofs cite.
+mod Counts
 mod Execution
 mod Parts
 mod Hashes

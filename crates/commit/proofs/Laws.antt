@@ -30,7 +30,7 @@ use Rattle.forms.specs.Party.{committed}
 use Rattle.signing.specs.Steps.{offsetsAt, ownRow, ownPart}
 use Rattle.signing.specs.Own.{own-long}
 use Rattle.signing.specs.Kept.{sum-room, sum-long}
-use Rattle.commit.proofs.Lists.{front-added, part-put, part-front}
+use Rattle.commit.proofs.Lists.{front-added, front-is, part-front}
 
 -- ---- the parties' hashes
 
@@ -58,15 +58,24 @@ module _ {S : Shape} (v : Valid S) (frame : List ℕ) (h : length frame ≡ tota
   abbrev end : ℕ
   end = offsetsAt S + 216 + 41 * wide
 
-  pub offsets-made : (tapes witness : List ℕ) {y z : List ℕ} → length witness ≡ 216
-      → length y ≡ length (take (end - offsetsAt S) (drop (offsetsAt S) frame))
-      → y ≡ sumXor parties (λ i. row (length (take (end - offsetsAt S) (drop (offsetsAt S) frame))) i tapes)
-      → z ≡ zipXor (take (offsetsAt S + 216 - offsetsAt S) (drop (offsetsAt S) (putMid (offsetsAt S) (end - offsetsAt S) frame y))) witness
-      → putMid (offsetsAt S) (offsetsAt S + 216 - offsetsAt S) (putMid (offsetsAt S) (end - offsetsAt S) frame y) z
-      ≡ put frame (offsetsAt S) (zipXor (sumXor parties (λ i. row (total (tapeSizes S)) i tapes)) witness)
-  offsets-made tapes witness {y} l kept is added =
-      front-added (offsetsAt S) 216 (41 * wide) frame y witness (kept ∙ sum-long v frame h ∙ tape-total v) l (sum-room v frame h) added
-      ∙ ap (λ s. put frame (offsetsAt S) (zipXor s witness)) (is ∙ ap (λ n. sumXor parties (λ i. row n i tapes)) (sum-long v frame h))
+  -- the sum of the tapes was lent as `&mut frame[offsetsAt S..end]`, and its front, with the witness added, came back as z
+  module _ (tapes witness : List ℕ) {y z : List ℕ} (l : length witness ≡ 216)
+      (kept : length y ≡ length (take (end - offsetsAt S) (drop (offsetsAt S) frame)))
+      (is : y ≡ sumXor parties (λ i. row (length (take (end - offsetsAt S) (drop (offsetsAt S) frame))) i tapes))
+      (added : z ≡ zipXor (take (offsetsAt S + 216 - offsetsAt S) (drop (offsetsAt S) (putMid (offsetsAt S) (end - offsetsAt S) frame y))) witness) where
+    sum-is : zipXor y witness ≡ zipXor (sumXor parties (λ i. row (total (tapeSizes S)) i tapes)) witness
+    sum-is = ap (λ s. zipXor s witness) (is ∙ ap (λ n. sumXor parties (λ i. row n i tapes)) (sum-long v frame h))
+
+    pub offsets-made : putMid (offsetsAt S) (offsetsAt S + 216 - offsetsAt S) (putMid (offsetsAt S) (end - offsetsAt S) frame y) z
+        ≡ put frame (offsetsAt S) (zipXor (sumXor parties (λ i. row (total (tapeSizes S)) i tapes)) witness)
+    offsets-made =
+        front-added (offsetsAt S) 216 (41 * wide) frame y witness (kept ∙ sum-long v frame h ∙ tape-total v) l (sum-room v frame h) added
+        ∙ ap (put frame (offsetsAt S)) sum-is
+
+    pub offsets-are : z ≡ take 216 (zipXor (sumXor parties (λ i. row (total (tapeSizes S)) i tapes)) witness)
+    offsets-are =
+        front-is (offsetsAt S) 216 (41 * wide) frame y witness (kept ∙ sum-long v frame h ∙ tape-total v) l (sum-room v frame h) added
+        ∙ ap (take 216) sum-is
 
 -- ---- an execution's part, the tapes being in rows
 
@@ -80,58 +89,40 @@ module _ {S : Shape} (v : Valid S) (witness salt root : List ℕ) (e : ℕ) {tap
       ∙ row-of-rows (total (tapeSizes S)) (tapeOf (aesScheme S) salt root e) parties
       (λ j l. hashed-tape (aesScheme S) (laws v) salt e j (seedOf (aesScheme S) salt root e j) .size) i l
 
-  pub own-made : (frame : List ℕ) {out : List ℕ}
-      → out ≡ put frame (offsetsAt S) (zipXor (sumXor parties (λ i. row (total (tapeSizes S)) i tapes)) witness)
-      → out ≡ put frame (offsetsAt S) (ownRow S witness salt root e)
+  abbrev own : List ℕ
+  own = ownRow S witness salt root e
+
+  pub own-made : zipXor (sumXor parties (λ i. row (total (tapeSizes S)) i tapes)) witness ≡ ownRow S witness salt root e
   unfolding ownRow
-  own-made frame o = o ∙ ap (λ s. put frame (offsetsAt S) (zipXor s witness)) (sumXor-cong parties tape-row)
+  own-made = ap (λ s. zipXor s witness) (sumXor-cong parties tape-row)
 
-  -- what is read of the frame
-  module _ (frame : List ℕ) {out : List ℕ} (k : offsetsAt S ≤ length frame) (o : out ≡ put frame (offsetsAt S) (ownRow S witness salt root e)) where
-    abbrev at : ℕ
-    at = offsetsAt S
+  -- the output shares, worked out with the offsets x
+  abbrev shares : List ℕ → List ℕ → List ℕ
+  shares front x =
+      rows (λ i. outputShare (aesScheme S) (committed front (take 16 x) (part 16 200 x)) i (row (total (tapeSizes S)) i tapes)) parties
 
-    part-read : (n m : ℕ) → n + m ≤ 216 → take (at + (n + m) - (at + n)) (drop (at + n) out) ≡ part n m (ownRow S witness salt root e)
-    part-read n m less =
-        let size : at + (n + m) - (at + n) ≡ m = omega arith in
-        rw (size, o) (part-put at n m frame (ownRow S witness salt root e) k (omega (arith, own-long v witness salt root e l, tape-total v)))
+  own-room : 216 ≤ length own
+  own-room = omega (arith, own-long v witness salt root e l, tape-total v)
 
-    front-read : (m : ℕ) → m ≤ 216 → take (at + m - at) (drop at out) ≡ take m (ownRow S witness salt root e)
-    front-read m less =
-        let none : at + 0 ≡ at = omega arith in
-        let all : 0 + m ≡ m = omega arith in
-        rw (all, none) at (part-read 0 m (omega arith))
+  shares-are : (front : List ℕ) → shares front (take 216 own)
+      ≡ rows (λ i. outputShare (aesScheme S) (committed front (take 16 own) (part 16 200 own)) i (tapeOf (aesScheme S) salt root e i)) parties
+  shares-are front =
+      rows-cong parties
+      (λ i l. ap₂ (λ x t. outputShare (aesScheme S) x i t)
+      (ap₂ (committed front) (part-front 0 16 216 own (omega arith) own-room) (part-front 16 200 216 own (omega arith) own-room)) (tape-row i l))
 
-    abbrev own : List ℕ
-    own = ownRow S witness salt root e
-
-    -- the output shares, worked out with the offsets x
-    abbrev shares : List ℕ → List ℕ → List ℕ
-    shares front x =
-        rows (λ i. outputShare (aesScheme S) (committed front (take 16 x) (part 16 200 x)) i (row (total (tapeSizes S)) i tapes)) parties
-
-    own-room : 216 ≤ length own
-    own-room = omega (arith, own-long v witness salt root e l, tape-total v)
-
-    shares-are : (front : List ℕ) → shares front (take 216 own)
-        ≡ rows (λ i. outputShare (aesScheme S) (committed front (take 16 own) (part 16 200 own)) i (tapeOf (aesScheme S) salt root e i)) parties
-    shares-are front =
-        rows-cong parties
-        (λ i l. ap₂ (λ x t. outputShare (aesScheme S) x i t)
-        (ap₂ (committed front) (part-front 0 16 216 own (omega arith) own-room) (part-front 16 200 216 own (omega arith) own-room)) (tape-row i l))
-
-    -- the commitments were absorbed, and then the output shares and the offsets
-    pub part-made : (front : List ℕ) (s : Sponge) {a r : Sponge}
-        → a ≡ absorbed s (rows (λ i. commitment (aesScheme S) salt e i (seedOf (aesScheme S) salt root e i)) parties)
-        → r ≡ absorbed (absorbed a (shares front (take (at + 216 - at) (drop at out)))) (take (at + 216 - at) (drop at out))
-        → r ≡ absorbed s (ownPart S front witness salt root e)
-    unfolding ownPart
-    part-made front s {a} {r} p q =
-        let b = rows (λ i. outputShare (aesScheme S) (committed front (take 16 own) (part 16 200 own)) i (tapeOf (aesScheme S) salt root e i)) parties in
-        let c = rows (λ i. commitment (aesScheme S) salt e i (seedOf (aesScheme S) salt root e i)) parties in
-        more s (c ++ b) (take 216 own) (more s {t = a} {u = absorbed a b} c b p refl)
-        (q ∙ ap (λ x. absorbed (absorbed a (shares front x)) x) (front-read 216 (omega arith))
-        ∙ ap (λ x. absorbed (absorbed a x) (take 216 own)) (shares-are front))
+  -- the commitments were absorbed, and then the output shares and the offsets
+  pub part-made : (front : List ℕ) (s : Sponge) {a r : Sponge} {z : List ℕ} → z ≡ take 216 (ownRow S witness salt root e)
+      → a ≡ absorbed s (rows (λ i. commitment (aesScheme S) salt e i (seedOf (aesScheme S) salt root e i)) parties)
+      → r ≡ absorbed (absorbed a (shares front z)) z
+      → r ≡ absorbed s (ownPart S front witness salt root e)
+  unfolding ownPart
+  part-made front s {a} {r} o p q =
+      let b = rows (λ i. outputShare (aesScheme S) (committed front (take 16 own) (part 16 200 own)) i (tapeOf (aesScheme S) salt root e i)) parties in
+      let c = rows (λ i. commitment (aesScheme S) salt e i (seedOf (aesScheme S) salt root e i)) parties in
+      more s (c ++ b) (take 216 own) (more s {t = a} {u = absorbed a b} c b p refl)
+      (q ∙ ap (λ x. absorbed (absorbed a (shares front x)) x) o
+      ∙ ap (λ x. absorbed (absorbed a x) (take 216 own)) (shares-are front))
 
 -- two pieces, of which the first is x
 pub two-pieces : (s : Sponge) (y : List ℕ) {a r : Sponge} {w x : List ℕ} → w ≡ x → a ≡ absorbed s w → r ≡ absorbed a y

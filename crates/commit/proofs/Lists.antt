@@ -1,4 +1,4 @@
--- A list put into another, the front of which is added to, and parts of which are read. Assumes nothing.
+-- A list put into another, the front of which is added to and read. Assumes nothing.
 use mathlib.Core.Path.{_≡_, refl, sym, ap, ap₂, _∙_}
 use mathlib.Core.List.{List, [], _∷_, _++_, append-nil, append-assoc}
 use Prim.Native.Nat.{ℕ, _+_, _-_, _≤_}
@@ -34,33 +34,34 @@ module _ (k n m : ℕ) (d y w : List ℕ) (h : length y ≡ n + m) (l : length w
       let e : k + n + m - k ≡ n + m = omega arith in
       rw (e, drop-drop (n + m) k d) (drop-at (take k d) (y ++ drop (k + (n + m)) d) k front-size)
 
-  pub front-added : {z : List ℕ} → z ≡ zipXor (take (k + n - k) (drop k lent)) w → putMid k (k + n - k) lent z ≡ put d k (zipXor y w)
-  unfolding put
-  front-added {z} e =
-      let one : k + n - k ≡ n = omega arith in
-      let size : length (zipXor y w) ≡ n + m = rw (length-zip-max y w) (omega arith) in
-      let less : n ≤ length y = omega arith in
-      let end : drop (k + (n + m)) d ≡ drop (k + length (zipXor y w)) d = ap (λ i. drop (k + i) d) (sym size) in
-      let added : z ≡ zipXor (take n y) w =
-      e ∙ ap (λ i. zipXor (take i (drop k lent)) w) one ∙ ap (λ s. zipXor (take n s) w) behind
-      ∙ ap (λ s. zipXor s w) (take-append-le n y (drop (k + (n + m)) d) less) in
-      let rest : drop (k + n - k) (drop k lent) ≡ drop n y ++ drop (k + (n + m)) d =
-      ap (λ i. drop i (drop k lent)) one ∙ ap (drop n) behind ∙ drop-append-le n y (drop (k + (n + m)) d) less in
-      ap₂ (λ a b. a ++ (z ++ b)) (take-at (take k d) _ k front-size) rest
-      ∙ ap (take k d ++_)
-      (sym (append-assoc z (drop n y) (drop (k + (n + m)) d))
-      ∙ ap₂ _++_ (ap (_++ drop n y) added ∙ zip-front n y w l less) end)
+  less : n ≤ length y
+  less = omega arith
 
--- part of what was put
-pub part-put : (k n m : ℕ) (d s : List ℕ) → k ≤ length d → n + m ≤ length s → part (k + n) m (put d k s) ≡ part n m s
-unfolding put
-part-put k n m d s l h =
-    let tail = drop (k + length s) d in
-    let left : m ≤ length (drop n s) = rw length-drop (omega arith) in
-    ap (take m)
-    (sym (drop-drop n k (take k d ++ (s ++ tail))) ∙ ap (drop n) (drop-at (take k d) (s ++ tail) k (length-take-le k d l))
-    ∙ drop-append-le n s tail (omega arith))
-    ∙ take-append-le m (drop n s) tail left
+  -- z is its front, with w added
+  module _ {z : List ℕ} (e : z ≡ zipXor (take (k + n - k) (drop k lent)) w) where
+    added : z ≡ zipXor (take n y) w
+    added =
+        let one : k + n - k ≡ n = omega arith in
+        e ∙ ap (λ i. zipXor (take i (drop k lent)) w) one ∙ ap (λ s. zipXor (take n s) w) behind
+        ∙ ap (λ s. zipXor s w) (take-append-le n y (drop (k + (n + m)) d) less)
+
+    pub front-is : z ≡ take n (zipXor y w)
+    front-is =
+        let size : length (zipXor (take n y) w) ≡ n = rw (length-zip-max (take n y) w) (omega (arith, length-take-le n y less)) in
+        added ∙ sym (take-at (zipXor (take n y) w) (drop n y) n size) ∙ ap (take n) (zip-front n y w l less)
+
+    pub front-added : putMid k (k + n - k) lent z ≡ put d k (zipXor y w)
+    unfolding put
+    front-added =
+        let one : k + n - k ≡ n = omega arith in
+        let size : length (zipXor y w) ≡ n + m = rw (length-zip-max y w) (omega arith) in
+        let end : drop (k + (n + m)) d ≡ drop (k + length (zipXor y w)) d = ap (λ i. drop (k + i) d) (sym size) in
+        let rest : drop (k + n - k) (drop k lent) ≡ drop n y ++ drop (k + (n + m)) d =
+        ap (λ i. drop i (drop k lent)) one ∙ ap (drop n) behind ∙ drop-append-le n y (drop (k + (n + m)) d) less in
+        ap₂ (λ a b. a ++ (z ++ b)) (take-at (take k d) _ k front-size) rest
+        ∙ ap (take k d ++_)
+        (sym (append-assoc z (drop n y) (drop (k + (n + m)) d))
+        ∙ ap₂ _++_ (ap (_++ drop n y) added ∙ zip-front n y w l less) end)
 
 -- part of a front
 pub part-front : (n m k : ℕ) (l : List ℕ) → n + m ≤ k → k ≤ length l → part n m (take k l) ≡ part n m l

@@ -5,7 +5,7 @@ use stream::Sponge;
 ghost use mathlib.Core.Path.{_≡_};
 ghost use Prim.Native.Nat.{_*_, _≤_};
 ghost use lib.ListN.{length, take};
-ghost use Rattle.slices.specs.Lists.{rows, row, part, put, zipXor, sumXor};
+ghost use Rattle.slices.specs.Lists.{rows, row, part, put};
 ghost use Rattle.slices.specs.Layout.{total};
 ghost use Rattle.stream.specs.Stream.{absorbed};
 ghost use Rattle.banquet.specs.Shape.{tapeSizes, frameSizes};
@@ -43,21 +43,6 @@ fn draw_parties(
     absorb::absorb(s, commitments)
 }
 
-// The sum of the tapes into the frame, with the true values of key and inverses added: "An offset is the true value plus the sum of tape shares."
-fn commit_offsets(shape: Shape, witness: &[u8], tapes: &[u8], frame: &mut [u8])
-    requires { ⌜ Valid shape × (length (now witness) ≡ 216) × (length (now tapes) ≡ shape .parties * total (tapeSizes shape))
-        × (length (now frame) ≡ total (frameSizes shape)) ⌝ }
-    ensures { λ _. ⌜ now (frame .exit)
-        ≡ put (now (frame .entry)) (offsetsAt shape) (zipXor (sumXor (shape .parties) (λ i. row (total (tapeSizes shape)) i (now (tapes .entry))))
-        (now (witness .entry))) ⌝ }
-{
-    let k = shape.depth * 16 + 32;
-    let a = k + 216;
-    let b = a + 41 * shape.wide;
-    row_sums::sum_rows(shape.parties, tapes, &mut frame[k..b]);
-    xor::xor_into(&mut frame[k..a], witness);
-}
-
 // Absorbs the parties' output shares, and then the offsets of key and inverses.
 fn absorb_shares(shape: Shape, front: &[u8], offsets: &[u8], tapes: &[u8], s: Sponge) -> Sponge
     requires { ⌜ Valid shape × (length (now front) ≡ 16) × (length (now offsets) ≡ 216)
@@ -82,7 +67,7 @@ fn absorb_shares(shape: Shape, front: &[u8], offsets: &[u8], tapes: &[u8], s: Sp
     absorb::absorb(b, offsets)
 }
 
-// One execution's. The tapes are scratch.
+// One execution's: "An offset is the true value plus the sum of tape shares." The tapes are scratch.
 fn commit_frame(
     shape: Shape,
     salt: &[u8],
@@ -100,11 +85,14 @@ fn commit_frame(
         ≡ put (now (frame .entry)) (offsetsAt shape) (ownRow shape (now (witness .entry)) (now (salt .entry)) (now (root .entry)) e) ⌝ }
     ensures { λ r. ⌜ r ≡ absorbed s (ownPart shape (now (front .entry)) (now (witness .entry)) (now (salt .entry)) (now (root .entry)) e) ⌝ }
 {
+    let t = draw_parties(shape, salt, e, root, tapes, s);
     let k = shape.depth * 16 + 32;
-    let p = k + 216;
-    let a = draw_parties(shape, salt, e, root, tapes, s);
-    commit_offsets(shape, witness, tapes, frame);
-    absorb_shares(shape, front, &frame[k..p], tapes, a)
+    let a = k + 216;
+    let b = a + 41 * shape.wide;
+    row_sums::sum_rows(shape.parties, tapes, &mut frame[k..b]);
+    let offsets = &mut frame[k..a];
+    xor::xor_into(offsets, witness);
+    absorb_shares(shape, front, offsets, tapes, t)
 }
 
 // Those of all executions. `roots` has their root seeds, `witness` the key and the inverses of the S-boxes' inputs.

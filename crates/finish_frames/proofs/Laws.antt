@@ -5,6 +5,8 @@ use Prim.Native.Nat.{ℕ, _+_, _-_, _*_, _^_, _<_, _≤_}
 use native.Mathlib.Omega.{arith}
 use lib.ListN.{length, take, drop, replicate, length-drop}
 use lib.Seq.{take-at, drop-at, drop-drop, length-take-le}
+use mir.Syntax.{w8, w64}
+use mir.Val.{Fits}
 use borrow.Rule.Slice.PartMut.{putMid, same-len-mid}
 use Rattle.slices.specs.Lists.{row}
 use Rattle.slices.specs.Numbers.{numberAt}
@@ -40,15 +42,46 @@ two-lent a k d y z h =
     let f : a - 0 ≡ a = omega arith in
     rw (e, f, take-at y (drop a d) a h, drop-at y (drop a d) a h, drop-drop k a d)
 
+-- ---- counts
+
+pub in-word : {n k : ℕ} → n ≤ k → k ≤ 156672 → Fits w64 n
+in-word h k = omega (arith, h, k)
+
+pub in-byte : {n k : ℕ} → n < k → k ≤ 256 → Fits w8 n
+in-byte h k = omega (arith, h, k)
+
+pub begins : (n : ℕ) {a k : ℕ} → a + n ≤ k → a ≤ k
+begins n h = omega (arith, h)
+
+pub as-long : {n m k : ℕ} → n ≤ k → m ≡ k → n ≤ m
+as-long h e = omega (arith, h, e)
+
+-- the next turn of a loop
+module _ {e n : ℕ} (h : e < n) where
+  pub next-most : e + 1 ≤ n
+  next-most = omega (arith, h)
+
+  pub nearer : n - (e + 1) < n - e
+  nearer = omega (arith, h)
+
+-- the sibling seeds' bytes, and the commitment's behind them
+pub front-room : {S : Shape} → Valid S → {n : ℕ} → n ≡ total (frameSizes S) → S .depth * 16 + 32 ≤ n
+front-room v e = omega (arith, e, frame-total v)
+
+pub front-most : {S : Shape} → Valid S → S .depth * 16 + 32 ≤ 144
+front-most v = omega (arith, v .shallow)
+
+pub frame-bytes-most : {S : Shape} → Valid S → 248 + 16 * S .depth + 42 * S .wide ≤ 612
+frame-bytes-most v = omega (arith, v .shallow, v .wide-most)
+
 -- ---- a frame
 
 module _ {S : Shape} (v : Valid S) (salt root : List ℕ) (e hidden : ℕ) (frame : List ℕ) (root-long : length root ≡ 16)
     (within : hidden < S .parties) (long : length frame ≡ total (frameSizes S)) where
   open Shape S using (depth)
 
-  -- the sibling seeds' bytes, and the commitment's behind them
   room : depth * 16 + 32 ≤ length frame
-  room = omega (arith, frame-total v)
+  room = front-room v long
 
   -- the frame with the sibling seeds, which are y
   abbrev seeded : List ℕ → List ℕ

@@ -1,15 +1,14 @@
--- Pieces absorbed one after the other; what a function of the parties' rows asks of their length. Assumes nothing.
-use mathlib.Core.Path.{_≡_, refl, sym, ap, _∙_}
-use mathlib.Core.List.{List, [], _++_, append-nil, append-assoc}
-use Prim.Native.Nat.{ℕ, _+_, _-_, _*_, _≤_}
+-- What ends a frame; the sum of all parties' rows, as it is written; what the rows are worked out from. Assumes nothing.
+use mathlib.Core.Path.{_≡_, refl, sym, ap, ap₂, _∙_}
+use mathlib.Core.List.{List, [], _∷_, _++_, append-nil}
+use Prim.Native.Nat.{ℕ, suc, _+_, _-_, _*_}
 use native.Mathlib.Omega.{arith}
-use lib.ListN.{length, take, drop, length-take, length-drop, drop-of-length-le}
-use lib.Seq.{take-all}
+use lib.ListN.{length, take, drop, length-take, length-drop}
+use lib.Seq.{take-at, take-all, drop-drop}
 use Rattle.slices.specs.Lists.{rows, row}
 use Rattle.slices.specs.Tab.{rows-cong, row-of-rows}
-use Rattle.slices.specs.Layout.{total, field}
-use Rattle.slices.proofs.Put.{Wrote, wrote-all}
-use Rattle.stream.specs.Stream.{absorbed}
+use Rattle.slices.specs.Layout.{total, field, layout}
+use Rattle.slices.proofs.Put.{Wrote, wrote-all, cut-long}
 use Rattle.complete.specs.Complete.{completedRow}
 use Rattle.complete.specs.Rows.{completed-cong}
 use Rattle.banquet.specs.declared.Shape.{Shape}
@@ -17,30 +16,56 @@ use Rattle.banquet.specs.Shape.{frameSizes}
 use Rattle.banquet.specs.Sets.{aesScheme}
 use Rattle.banquet.specs.Hash.{tape}
 use Rattle.banquet.specs.Execution.{challenge}
+use Rattle.banquet.specs.Signature.{framePart}
 use Rattle.sets.specs.Valid.{Valid}
-use Rattle.sets.specs.Bounds.{rowSizes, row-total}
+use Rattle.sets.specs.Bounds.{rowSizes}
 use Rattle.forms.specs.Party.{committed, shareRow}
+use Rattle.frame_hashes.specs.Linear.{layout-fields}
 use Rattle.frame_hashes.specs.Given.{Given}
 use Rattle.frame_hashes.specs.Frame.{wholeRow, committedShown, challengeShown, frameRow, shown-long}
 
--- a column of the rows
-pub column-fits : {S : Shape} (v : Valid S) (rows : List ℕ) {len : ℕ} (from n : ℕ) → length rows ≡ S .parties * total (rowSizes S)
-    → len ≡ total (rowSizes S) → from + n ≤ 16 + 21 * S .wide → (length rows ≡ S .parties * len) × (from + n ≤ len)
-column-fits {S} v rows from n h e room = (h ∙ ap (λ m. S .parties * m) (sym e), omega (arith, e, row-total v, room))
+-- ---- c, a and b end a frame
 
--- the sum of all rows, written part by part
-pub whole-written : {S : Shape} (v : Valid S) (publicKey frame : List ℕ) {sizes d l : List ℕ} → length publicKey ≡ 32 → sizes ≡ frameSizes S
-    → length d ≡ total (rowSizes S)
-    → Wrote d
-    (((([] ++ take (32 - 16) (drop 16 publicKey)) ++ field sizes 5 frame) ++ field sizes 6 frame) ++ field sizes 7 frame)
-    (0 + 16 + S .wide + S .m1 * S .wide + S .m1 * S .wide) l
-    → l ≡ wholeRow S publicKey frame
-whole-written {S} v publicKey frame {sizes} {d} h e k w =
-    let room : length d ≤ 0 + 16 + S .wide + S .m1 * S .wide + S .m1 * S .wide = omega arith in
-    let end : drop (0 + 16 + S .wide + S .m1 * S .wide + S .m1 * S .wide) d ≡ [] = drop-of-length-le d room in
-    let text : take (32 - 16) (drop 16 publicKey) ≡ drop (S .front) publicKey =
-    take-all 16 (drop 16 publicKey) (omega (arith, h, length-drop 16 publicKey)) ∙ ap (λ n. drop n publicKey) (sym (v .plaintext)) in
-    wrote-all w ∙ rw (end, e, text) (simp (append-nil, append-assoc))
+module _ (S : Shape) (frame : List ℕ) {len : ℕ} (long : length frame ≡ total (frameSizes S)) (e : len ≡ total (rowSizes S)) where
+  open Shape S using (depth, wide, m1, m2)
+
+  abbrev from : ℕ
+  from = length frame - (len - 16)
+
+  abbrev sums : List ℕ
+  sums = drop (suc m2 * wide) (drop (m1 * m2) (drop 16 (drop 32 (drop (depth * 16) frame))))
+
+  sums-from : drop from frame ≡ sums
+  sums-from =
+      let is : from ≡ depth * 16 + 32 + 16 + m1 * m2 + suc m2 * wide = omega (arith, long, e) in
+      simp drop-drop (ap (λ (k : ℕ). drop k frame) is)
+
+  pub sums-long : length (take (length frame - from) (drop from frame)) ≡ len - 16
+  sums-long =
+      let end : from + (len - 16) ≡ length frame = omega (arith, long, e) in
+      cut-long from (length frame) frame end (omega arith)
+
+  pub sums-last : take (length frame - from) (drop from frame)
+      ≡ framePart (aesScheme S) frame 5 ++ (framePart (aesScheme S) frame 6 ++ framePart (aesScheme S) frame 7)
+  unfolding field layout
+  sums-last =
+      let size : length sums ≡ wide + (m1 * wide + (m1 * wide + 0)) =
+      ap length (sym sums-from) ∙ length-drop from frame ∙ omega (arith, long, e) in
+      take-all (length frame - from) (drop from frame) (omega (arith, length-drop from frame)) ∙ sums-from
+      ∙ layout-fields (wide ∷ m1 * wide ∷ m1 * wide ∷ []) sums size
+      ∙ ap (λ (x : List ℕ). framePart (aesScheme S) frame 5 ++ (framePart (aesScheme S) frame 6 ++ x)) (append-nil (framePart (aesScheme S) frame 7))
+
+  -- the sum of all rows, written part by part
+  pub whole-written : Valid S → (publicKey : List ℕ) {d l : List ℕ} → length publicKey ≡ 32
+      → Wrote d (([] ++ take (32 - 16) (drop 16 publicKey)) ++ take (length frame - from) (drop from frame)) (0 + 16 + (len - 16)) l
+      → take (len - 0) l ≡ wholeRow S publicKey frame
+  whole-written v publicKey {d} h w =
+      let n : len - 0 ≡ 0 + 16 + (len - 16) = omega (arith, e) in
+      let text : take (32 - 16) (drop 16 publicKey) ≡ drop (S .front) publicKey =
+      take-all 16 (drop 16 publicKey) (omega (arith, h, length-drop 16 publicKey)) ∙ ap (λ n. drop n publicKey) (sym (v .plaintext)) in
+      ap₂ (λ (k : ℕ) (x : List ℕ). take k x) n (wrote-all w)
+      ∙ take-at (take (32 - 16) (drop 16 publicKey) ++ take (length frame - from) (drop from frame)) (drop (0 + 16 + (len - 16)) d) (0 + 16 + (len - 16)) (w .size)
+      ∙ ap₂ _++_ text sums-last
 
 -- ---- what the rows are worked out from
 

@@ -13,13 +13,12 @@ pub fn first_input(public: &[u8], message: &[u8], salt: &[u8]) -> Sponge
     ensures { λ r. ⌜ r
         ≡ absorbed empty (1 ∷ (now (public .entry) ++ bytesOf 4 (length (now (message .entry))) ++ now (message .entry) ++ now (salt .entry))) ⌝ }
 {
-    let mut m = [0u8; 37];
-    m[0] = 1;
-    slices::copy_at(&mut m, 1, public);
-    numbers::store(&mut m, 33, 4, message.len() as u64);
-    let a = absorb::absorb(stream::new(), &m);
-    let b = absorb::absorb(a, message);
-    absorb::absorb(b, salt)
+    let a = tagged(1, public);
+    let mut n = [0u8; 4];
+    numbers::store(&mut n, 0, 4, message.len() as u64);
+    let b = absorb::absorb(a, &n);
+    let c = absorb::absorb(b, message);
+    absorb::absorb(c, salt)
 }
 
 // "2: h1, ..", "3: h2, ..", "6: h1", "7: h2", "8: h3"
@@ -27,10 +26,8 @@ pub fn tagged(tag: u8, h: &[u8]) -> Sponge
     requires { ⌜ length (now h) ≡ 32 ⌝ }
     ensures { λ r. ⌜ r ≡ absorbed empty (tag ∷ now (h .entry)) ⌝ }
 {
-    let mut m = [0u8; 33];
-    m[0] = tag;
-    slices::copy_at(&mut m, 1, h);
-    absorb::absorb(stream::new(), &m)
+    let a = absorb::absorb(stream::new(), &[tag]);
+    absorb::absorb(a, h)
 }
 
 // The output for what was absorbed.

@@ -22,40 +22,16 @@ pub fn round_constant(n: usize) -> u8
     ROUND_CONSTANTS[n]
 }
 
-// The round key after k, where temp is added to the first word.
+// The round key after k, where temp is added to the first word, and each word to the next.
 fn next_key(k: [u8; 16], temp: [u8; 4]) -> [u8; 16]
     ensures { λ r. ⌜ r ≡ nextKey k temp ⌝ }
 {
-    let a0 = k[0] ^ temp[0];
-    let a1 = k[1] ^ temp[1];
-    let a2 = k[2] ^ temp[2];
-    let a3 = k[3] ^ temp[3];
-    let b0 = k[4] ^ a0;
-    let b1 = k[5] ^ a1;
-    let b2 = k[6] ^ a2;
-    let b3 = k[7] ^ a3;
-    let c0 = k[8] ^ b0;
-    let c1 = k[9] ^ b1;
-    let c2 = k[10] ^ b2;
-    let c3 = k[11] ^ b3;
-    [
-        a0,
-        a1,
-        a2,
-        a3,
-        b0,
-        b1,
-        b2,
-        b3,
-        c0,
-        c1,
-        c2,
-        c3,
-        k[12] ^ c0,
-        k[13] ^ c1,
-        k[14] ^ c2,
-        k[15] ^ c3,
-    ]
+    let mut out = [0u8; 16];
+    for i in 0..16 {
+        let before = if i < 4 { temp[i] } else { out[i - 4] };
+        out[i] = k[i] ^ before;
+    }
+    out
 }
 
 // The round key after k: s is what SubWord() gives, and c the first byte of Rcon.

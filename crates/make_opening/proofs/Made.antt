@@ -19,7 +19,7 @@ use Rattle.forms.specs.Party.{committed, shareRow}
 use Rattle.forms.specs.Offsets.{workedOffsets, key-offset, inverse-offsets, product-offsets}
 use Rattle.write_opening.specs.Written.{written}
 use Rattle.write_opening.specs.Opening.{Made, written-opening, leaf-seeds}
-use Rattle.make_opening.specs.Steps.{Inverted, AtPoints}
+use Rattle.make_opening.specs.Steps.{AtPoints}
 
 module _ {S : Shape} (v : Valid S) (key public salt root first seeds : List ℕ) (e second hidden : ℕ) where
   open Shape S using (parties, depth)
@@ -34,9 +34,9 @@ module _ {S : Shape} (v : Valid S) (key public salt root first seeds : List ℕ)
   drawn i l = hashed-tape (aesScheme S) (laws v) salt e i (row 16 i seeds)
 
   -- the offsets as `signer` leaves them, the rows as `execution` does
-  module _ {inputs inverses us vs lasts k y o s : List ℕ} (root-size : length root ≡ 16)
-      (seeds-is : seeds ≡ nodeSeeds (leaves shake128 salt e depth 0 root)) (i : Inverted S key public inputs inverses)
-      (p : AtPoints S inputs inverses us vs lasts) (k-is : k ≡ zipXor key (tapePart (aesScheme S) 0 (sumXor parties tapes)))
+  module _ {inverses us vs lasts k y o s : List ℕ} (root-size : length root ≡ 16)
+      (seeds-is : seeds ≡ nodeSeeds (leaves shake128 salt e depth 0 root)) (p : AtPoints S key public inverses us vs lasts)
+      (k-is : k ≡ zipXor key (tapePart (aesScheme S) 0 (sumXor parties tapes)))
       (y-is : y ≡ zipXor inverses (tapePart (aesScheme S) 1 (sumXor parties tapes)))
       (o-is : o ≡ workedOffsets S us vs lasts (sumXor parties tapes) first)
       (s-is : s ≡ rows (λ i. shareRow (aesScheme S) (committed (take 16 public) k y) (challenge (aesScheme S) first o second) i (tapes i)) parties)
@@ -45,8 +45,8 @@ module _ {S : Shape} (v : Valid S) (key public salt root first seeds : List ℕ)
       made = record {
         seeds-are = leaf-seeds v salt root e root-size seeds-is;
         key-is = k-is ∙ key-offset v drawn front key;
-        inverses-are = y-is ∙ inverse-offsets v drawn front key (i .inverses-is);
-        offsets-are = o-is ∙ product-offsets v drawn front key (i .inputs-is) (i .inverses-is) (p .us-is) (p .vs-is) (p .lasts-is) first;
+        inverses-are = y-is ∙ inverse-offsets v drawn front key (p .inverses-is);
+        offsets-are = o-is ∙ product-offsets v drawn front key refl (p .inverses-is) (p .us-is) (p .vs-is) (p .lasts-is) first;
         rows-are = s-is
             ∙ ap (λ n. rows (λ i. shareRow (aesScheme S) (committed (take n public) k y) (challenge (aesScheme S) first o second) i (tapes i)) parties)
             (sym (v .plaintext));

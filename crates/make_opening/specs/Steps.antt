@@ -28,12 +28,14 @@ pub record Ranges (S : Shape) (e second hidden : ℕ) : Type 0 where
   pub second-least : 20 ≤ second
   pub second-wide : second < 2 ^ (8 * S .wide)
 
--- the S-boxes' inputs and inverses under the key, and at the points 20 to 40 their rows and Lagrange's value for the extra point
+-- the S-boxes' inputs and inverses under the key
 pub record Inverted (S : Shape) (key publicKey inputs inverses : List ℕ) : Type 0 where
   pub inputs-is : inputs ≡ aesScheme S .circuit .sboxInputs (frontOf (aesScheme S) publicKey) key
   pub inverses-is : inverses ≡ trueInverses (aesScheme S) (frontOf (aesScheme S) publicKey) key
 
-pub record AtPoints (S : Shape) (inputs inverses us vs lasts : List ℕ) : Type 0 where
-  pub us-is : us ≡ rows (λ k. tab (λ j. rowAt S inputs j (20 + k)) 10) 21
+-- the inverses, and at the points 20 to 40 the rows of the inputs and of the inverses and Lagrange's value for the extra point
+pub record AtPoints (S : Shape) (key publicKey inverses us vs lasts : List ℕ) : Type 0 where
+  pub inverses-is : inverses ≡ trueInverses (aesScheme S) (frontOf (aesScheme S) publicKey) key
+  pub us-is : us ≡ rows (λ k. tab (λ j. rowAt S (aesScheme S .circuit .sboxInputs (frontOf (aesScheme S) publicKey) key) j (20 + k)) 10) 21
   pub vs-is : vs ≡ rows (λ k. tab (λ j. rowAt S inverses j (20 + k)) 10) 21
   pub lasts-is : lasts ≡ tab (λ k. near S (20 + k) 20) 21

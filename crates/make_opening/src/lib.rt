@@ -1,7 +1,7 @@
 // An opening made by the holder of the key, for any parameter set.
 use banquet::Shape;
 ghost use mathlib.Core.Path.{_≡_};
-ghost use Prim.Native.Nat.{_*_, _^_, _≤_};
+ghost use Prim.Native.Nat.{_*_, _≤_};
 ghost use lib.ListN.{length};
 ghost use Rattle.slices.specs.Layout.{total};
 ghost use Rattle.shake.specs.Shake128.{shake128};
@@ -26,7 +26,6 @@ fn make_shares(
     e: u8,
     second: u64,
     hidden: usize,
-    inputs: &[u8],
     inverses: &[u8],
     seeds: &[u8],
     us: &[u64],
@@ -37,16 +36,15 @@ fn make_shares(
     out: &mut [u8],
 )
     requires { ⌜ Lengths shape (now key) (now public) (now salt) (now root) (now first)
-        × Ranges shape e second hidden × Inverted shape (now key) (now public) (now inputs) (now inverses)
-        × AtPoints shape (now inputs) (now inverses) (now us) (now vs) (now lasts)
+        × Ranges shape e second hidden × AtPoints shape (now key) (now public) (now inverses) (now us) (now vs) (now lasts)
         × (now seeds ≡ nodeSeeds (leaves shake128 (now salt) e (shape .depth) 0 (now root)))
         × (length (now products) ≡ productPoints shape * shape .wide) × (length (now rows) ≡ shape .parties * total (rowSizes shape))
         × (length (now out) ≡ openingLength shape) ⌝ }
     ensures { λ _. ⌜ now (out .exit)
         ≡ opening (aesScheme shape) (now (key .entry)) (now (public .entry)) (now (salt .entry)) (now (root .entry)) (now (first .entry)) e second hidden ⌝ }
 {
-    let mut key_offset = [0u8; 16];
-    let mut inverse_offsets = [0u8; 200];
+    let mut key_bytes = [0u8; 16];
+    let mut inverse_bytes = [0u8; 200];
     signer::offsets(
         shape,
         salt,
@@ -58,20 +56,23 @@ fn make_shares(
         vs,
         lasts,
         first,
-        &mut key_offset,
-        &mut inverse_offsets,
+        &mut key_bytes,
+        &mut inverse_bytes,
         products,
     );
+    let key_offset: &[u8] = &key_bytes;
+    let inverse_offsets: &[u8] = &inverse_bytes;
+    let product_offsets: &[u8] = products;
     execution::share_rows(
         shape,
         salt,
         e,
         seeds,
         &public[0..16],
-        &key_offset,
-        &inverse_offsets,
+        key_offset,
+        inverse_offsets,
         first,
-        products,
+        product_offsets,
         second,
         rows,
     );
@@ -82,64 +83,11 @@ fn make_shares(
         root,
         hidden,
         seeds,
-        &key_offset,
-        &inverse_offsets,
+        key_offset,
+        inverse_offsets,
         first,
-        products,
+        product_offsets,
         second,
-        rows,
-        out,
-    );
-}
-
-// The same from the S-boxes' inputs and inverses alone. The seeds are scratch, too.
-fn make_rows(
-    shape: Shape,
-    key: &[u8],
-    public: &[u8],
-    salt: &[u8],
-    root: &[u8],
-    first: &[u8],
-    e: u8,
-    second: u64,
-    hidden: usize,
-    inputs: &[u8],
-    inverses: &[u8],
-    seeds: &mut [u8],
-    rows: &mut [u8],
-    out: &mut [u8],
-)
-    requires { ⌜ Lengths shape (now key) (now public) (now salt) (now root) (now first)
-        × Ranges shape e second hidden × Inverted shape (now key) (now public) (now inputs) (now inverses)
-        × (length (now seeds) ≡ 16 * 2 ^ shape .depth) × (length (now rows) ≡ shape .parties * total (rowSizes shape))
-        × (length (now out) ≡ openingLength shape) ⌝ }
-    ensures { λ _. ⌜ now (out .exit)
-        ≡ opening (aesScheme shape) (now (key .entry)) (now (public .entry)) (now (salt .entry)) (now (root .entry)) (now (first .entry)) e second hidden ⌝ }
-{
-    tree::expand(shape.depth, salt, e, 0, root, seeds);
-    let mut us = [0u64; 210];
-    let mut vs = [0u64; 210];
-    let mut lasts = [0u64; 21];
-    true_rows::true_rows(shape, inputs, inverses, &mut us, &mut vs, &mut lasts);
-    let mut products = [0u8; 126];
-    let end = 21 * shape.wide;
-    make_shares(
-        shape,
-        key,
-        public,
-        salt,
-        root,
-        first,
-        e,
-        second,
-        hidden,
-        inputs,
-        inverses,
-        seeds,
-        &us,
-        &vs,
-        &lasts,
-        &mut products[0..end],
         rows,
         out,
     );
@@ -169,11 +117,19 @@ pub fn make(
         (now (first .entry)) e second hidden) (now (out .entry)) ⌝ }
     ensures { λ _. ⌜ Scratch (now (work .entry)) (now (work .exit)) ⌝ }
 {
-    let mut seeds = [0u8; 2048];
-    let end = sets::leaf_bytes(shape);
+    let mut room = [0u8; 2048];
+    let leaves = sets::leaf_bytes(shape);
+    let seeds = &mut room[0..leaves];
+    tree::expand(shape.depth, salt, e, 0, root, seeds);
+    let mut us = [0u64; 210];
+    let mut vs = [0u64; 210];
+    let mut lasts = [0u64; 21];
+    true_rows::true_rows(shape, inputs, inverses, &mut us, &mut vs, &mut lasts);
+    let mut products = [0u8; 126];
+    let end = 21 * shape.wide;
     let rows = shape.parties * sets::row_length(shape);
     let size = opening_sizes::opening_length(shape);
-    make_rows(
+    make_shares(
         shape,
         key,
         public,
@@ -183,9 +139,12 @@ pub fn make(
         e,
         second,
         hidden,
-        inputs,
         inverses,
-        &mut seeds[0..end],
+        seeds,
+        &us,
+        &vs,
+        &lasts,
+        &mut products[0..end],
         &mut work[0..rows],
         &mut out[0..size],
     );

@@ -1,16 +1,15 @@
 -- What the passes absorb is what h1, h2 and h3 bind, and what they draw are the challenges. Assumes nothing.
-use mathlib.Core.Path.{_≡_, refl, ap, fun-ext, _∙_}
+use mathlib.Core.Path.{_≡_, refl, sym, ap, ap₂, fun-ext, _∙_}
 use mathlib.Core.List.{List, _∷_, _++_}
 use Prim.Native.Nat.{ℕ, _+_, _-_, _*_}
 use lib.Dec.{lit<}
 use lib.ListN.{length}
-use Rattle.slices.specs.Lists.{rows, row, part}
+use Rattle.slices.specs.Lists.{rows, row, part, put}
 use Rattle.slices.specs.Bytes.{Bytes, cons-bytes, append-bytes, rows-bytes}
 use Rattle.slices.specs.Numbers.{numberAt, bytesOf, bytesOf-bytes}
 use Rattle.slices.specs.Layout.{total}
 use Rattle.absorb_rows.proofs.Laws.{hashed}
 use Rattle.shake.specs.Shake128.{shake128}
-use Rattle.shake.specs.Laws.{sized-shake}
 use Rattle.stream.specs.declared.Sponge.{Sponge}
 use Rattle.stream.specs.Stream.{empty, absorbed, finished, squeezed}
 use Rattle.banquet.specs.declared.Shape.{Shape}
@@ -18,47 +17,46 @@ use Rattle.banquet.specs.Shape.{frameSizes, firstChallengeLength}
 use Rattle.banquet.specs.Sets.{aesScheme}
 use Rattle.banquet.specs.Hash.{firstHash, secondHash, thirdHash, firstChallenge, secondChallenge, hiddenParty, evaluationPoint, partyOf}
 use Rattle.sets.specs.Valid.{Valid}
-use Rattle.signing.specs.Steps.{offsetsAt, ownPart, pointRows, pointLasts, offsetFrame, openedFrame, openedPart, finishedFrame}
+use Rattle.frames.specs.Frames.{frame-total}
+use Rattle.signing.specs.Steps.{offsetsAt, ownRow, ownPart, pointRows, pointLasts, offsetFrame, openedFrame, openedPart, finishedFrame}
 use Rattle.signing.specs.Own.{own-part-bytes}
 use Rattle.signing.specs.Kept.{offset-part-bytes, opened-part-bytes}
 
--- ---- lengths
-
-module _ (S : Shape) where
-  pub first-size : (publicKey message salt : List ℕ) (f : ℕ → List ℕ) → length (firstHash (aesScheme S) publicKey message salt f) ≡ 32
-  unfolding firstHash
-  first-size publicKey message salt f = sized-shake _ 32 .size
-
-  pub second-size : (h1 : List ℕ) (f : ℕ → List ℕ) → length (secondHash (aesScheme S) h1 f) ≡ 32
-  unfolding secondHash
-  second-size h1 f = sized-shake _ 32 .size
-
-  pub third-size : (h2 : List ℕ) (f : ℕ → List ℕ) → length (thirdHash (aesScheme S) h2 f) ≡ 32
-  unfolding thirdHash
-  third-size h2 f = sized-shake _ 32 .size
-
 module _ {S : Shape} (v : Valid S) where
-  open Shape S using (executions, wide)
+  open Shape S using (executions, depth, wide)
 
-  pub first-hashed : {publicKey message salt witness : List ℕ} (front roots : List ℕ) {s t : Sponge} → Bytes publicKey → Bytes message → Bytes salt
-      → Bytes witness → s ≡ absorbed empty (1 ∷ (publicKey ++ bytesOf 4 (length message) ++ message ++ salt))
-      → t ≡ absorbed s (rows (λ e. ownPart S front witness salt (row 16 e roots) e) executions)
-      → squeezed (finished t) 32 ≡ firstHash (aesScheme S) publicKey message salt (λ e. ownPart S front witness salt (row 16 e roots) e)
-  unfolding firstHash
-  first-hashed {publicKey} {message} {salt} {witness} front roots p m b w e f =
-      hashed (1 ∷ (publicKey ++ bytesOf 4 (length message) ++ message ++ salt)) (rows (λ e. ownPart S front witness salt (row 16 e roots) e) executions)
-      (cons-bytes (lit< tt) (append-bytes (append-bytes (append-bytes p (bytesOf-bytes 4 (length message))) m) b))
-      (rows-bytes _ executions (λ e l. own-part-bytes v witness salt (row 16 e roots) e front w)) e f
+  -- ---- the witness, as the code holds it
 
-  pub second-hashed : {h1 frames : List ℕ} {n : ℕ} {s t : Sponge} → Bytes h1 → Bytes frames → s ≡ absorbed empty (2 ∷ h1) → n ≡ total (frameSizes S)
-      → t ≡ absorbed s (rows (λ e. part (offsetsAt S + 216) (21 * wide) (row n e frames)) executions)
+  module _ {witness held : List ℕ} (w : held ≡ witness) where
+    pub first-hashed : {publicKey message salt : List ℕ} (front roots : List ℕ) {s t : Sponge} → Bytes publicKey → Bytes message → Bytes salt
+        → Bytes witness → s ≡ absorbed empty (1 ∷ (publicKey ++ bytesOf 4 (length message) ++ message ++ salt))
+        → t ≡ absorbed s (rows (λ e. ownPart S front held salt (row 16 e roots) e) executions)
+        → squeezed (finished t) 32 ≡ firstHash (aesScheme S) publicKey message salt (λ e. ownPart S front witness salt (row 16 e roots) e)
+    unfolding firstHash
+    first-hashed {publicKey} {message} {salt} front roots {s} p m b k e f =
+        hashed (1 ∷ (publicKey ++ bytesOf 4 (length message) ++ message ++ salt))
+        (rows (λ e. ownPart S front witness salt (row 16 e roots) e) executions)
+        (cons-bytes (lit< tt) (append-bytes (append-bytes (append-bytes p (bytesOf-bytes 4 (length message))) m) b))
+        (rows-bytes _ executions (λ e l. own-part-bytes v witness salt (row 16 e roots) e front k)) e
+        (f ∙ ap (λ x. absorbed s (rows (λ e. ownPart S front x salt (row 16 e roots) e) executions)) w)
+
+    pub begun-right : (salt roots frames : List ℕ) {out : List ℕ}
+        → out ≡ rows (λ e. put (row (total (frameSizes S)) e frames) (offsetsAt S) (ownRow S held salt (row 16 e roots) e)) executions
+        → out ≡ rows (λ e. put (row (total (frameSizes S)) e frames) (offsetsAt S) (ownRow S witness salt (row 16 e roots) e)) executions
+    begun-right salt roots frames h =
+        h ∙ ap (λ x. rows (λ e. put (row (total (frameSizes S)) e frames) (offsetsAt S) (ownRow S x salt (row 16 e roots) e)) executions) w
+
+  -- ---- the product offsets, where the code finds them
+
+  pub second-hashed : {h1 frames : List ℕ} {at : ℕ} {s t : Sponge} → Bytes h1 → Bytes frames → s ≡ absorbed empty (2 ∷ h1)
+      → t ≡ absorbed s (rows (λ e. part at (21 * wide) (row (248 + 16 * depth + 42 * wide) e frames)) executions) → at ≡ offsetsAt S + 216
       → squeezed (finished t) 32
       ≡ secondHash (aesScheme S) h1 (λ e. part (offsetsAt S + 216) (21 * wide) (row (total (frameSizes S)) e frames))
   unfolding secondHash
-  second-hashed {h1} {frames} {n} {s} p q e z f =
+  second-hashed {h1} {frames} {at} {s} p q e f z =
       hashed (2 ∷ h1) (rows (λ e. part (offsetsAt S + 216) (21 * wide) (row (total (frameSizes S)) e frames)) executions)
       (cons-bytes (lit< tt) p) (rows-bytes _ executions (λ e l. offset-part-bytes v e q)) e
-      (f ∙ ap (λ n. absorbed s (rows (λ e. part (offsetsAt S + 216) (21 * wide) (row n e frames)) executions)) z)
+      (f ∙ ap₂ (λ k n. absorbed s (rows (λ e. part k (21 * wide) (row n e frames)) executions)) z (sym (frame-total v)))
 
   -- ---- the passes that draw challenges
 

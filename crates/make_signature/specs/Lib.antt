@@ -1,2 +1,3 @@
--- What the steps of signing are given.
+-- What the steps of signing are given, and what those after the first leave.
 pub mod Given
+pub mod Answered

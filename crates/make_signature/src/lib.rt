@@ -10,47 +10,47 @@ ghost use Rattle.shake.specs.Shake128.{shake128};
 ghost use Rattle.banquet.specs.Shape.{firstChallengeLength, frameSizes, signatureLength};
 ghost use Rattle.banquet.specs.Sets.{aesScheme};
 ghost use Rattle.banquet.specs.Hash.{firstHash, secondHash, thirdHash, firstChallenge, secondChallenge, hiddenParty};
-ghost use Rattle.banquet.specs.Signature.{signerH1, signerH3, signerFrame, signature};
+ghost use Rattle.banquet.specs.Signature.{signature};
 ghost use Rattle.sets.specs.Valid.{Valid};
 ghost use Rattle.scratch.specs.Scratch.{Scratch};
 ghost use Rattle.signing.specs.Steps.{offsetsAt, ownRow, ownPart, pointRows, pointLasts, offsetFrame, openedFrame, openedPart, finishedFrame};
 ghost use Rattle.make_signature.specs.Given.{Given, Frames};
-
-// h1 and h3.
-struct Heads {
-    first: [u8; 32],
-    third: [u8; 32],
-}
+ghost use Rattle.make_signature.specs.Answered.{Answered};
 
 // The offsets of key and inverses into the frames, and h1. The work slice's front is scratch for the tapes of one execution.
 fn commit_pass(
     shape: Shape,
+    key: &[u8],
+    inverses: &[u8],
     public: &[u8],
     message: &[u8],
     salt: &[u8],
     roots: &[u8],
-    witness: &[u8],
     frames: &mut [u8],
     work: &mut [u8],
 ) -> [u8; 32]
-    requires { ⌜ Frames shape (now frames) × (length (now public) ≡ 32) × (length (now salt) ≡ 32) × (length (now roots) ≡ shape .executions * 16)
-        × (length (now witness) ≡ 216) × (65536 ≤ length (now work)) ⌝ }
+    requires { ⌜ Frames shape (now frames) × (length (now key) ≡ 16) × (length (now inverses) ≡ 200) × (length (now public) ≡ 32)
+        × (length (now salt) ≡ 32) × (length (now roots) ≡ shape .executions * 16) × (65536 ≤ length (now work)) ⌝ }
     ensures { λ r. ⌜ r
         ≡ firstHash (aesScheme shape) (now (public .entry)) (now (message .entry)) (now (salt .entry))
-        (λ e. ownPart shape (take 16 (now (public .entry))) (now (witness .entry)) (now (salt .entry)) (row 16 e (now (roots .entry))) e) ⌝ }
+        (λ e. ownPart shape (take 16 (now (public .entry))) (now (key .entry) ++ now (inverses .entry)) (now (salt .entry))
+        (row 16 e (now (roots .entry))) e) ⌝ }
     ensures { λ _. ⌜ now (frames .exit)
         ≡ rows (λ e. put (row (total (frameSizes shape)) e (now (frames .entry))) (offsetsAt shape)
-        (ownRow shape (now (witness .entry)) (now (salt .entry)) (row 16 e (now (roots .entry))) e)) (shape .executions) ⌝ }
+        (ownRow shape (now (key .entry) ++ now (inverses .entry)) (now (salt .entry)) (row 16 e (now (roots .entry))) e)) (shape .executions) ⌝ }
     ensures { λ _. ⌜ Scratch (now (work .entry)) (now (work .exit)) ⌝ }
 {
     let size = shape.parties * (216 + 41 * shape.wide);
+    let mut witness = [0u8; 216];
+    slices::copy_at(&mut witness, 0, key);
+    slices::copy_at(&mut witness, 16, inverses);
     let s = hash_inputs::first_input(public, message, salt);
     let t = commit::commit_frames(
         shape,
         salt,
         roots,
         &public[0..16],
-        witness,
+        &witness,
         frames,
         &mut work[0..size],
         s,
@@ -60,7 +60,7 @@ fn commit_pass(
     h
 }
 
-// The first challenges, and under them the product offsets into the frames.
+// The first challenges, under them the product offsets into the frames, and h2: "2: h1, all product offsets; gives h2, 32 bytes."
 fn offset_pass(
     shape: Shape,
     inputs: &[u8],
@@ -68,13 +68,16 @@ fn offset_pass(
     h1: &[u8],
     firsts: &mut [u8],
     frames: &mut [u8],
-)
+) -> [u8; 32]
     requires { ⌜ Frames shape (now frames) × (length (now inputs) ≡ 200) × (length (now inverses) ≡ 200) × (length (now h1) ≡ 32)
         × (length (now firsts) ≡ shape .executions * firstChallengeLength shape) ⌝ }
     ensures { λ _. ⌜ now (firsts .exit) ≡ shake128 (6 ∷ now (h1 .entry)) (shape .executions * firstChallengeLength shape) ⌝ }
     ensures { λ _. ⌜ now (frames .exit)
         ≡ rows (λ e. offsetFrame shape (pointRows shape (now (inputs .entry))) (pointRows shape (now (inverses .entry))) (pointLasts shape)
         (firstChallenge (aesScheme shape) (now (h1 .entry)) e) (row (total (frameSizes shape)) e (now (frames .entry)))) (shape .executions) ⌝ }
+    ensures { λ r. ⌜ r
+        ≡ secondHash (aesScheme shape) (now (h1 .entry))
+        (λ e. part (offsetsAt shape + 216) (21 * shape .wide) (row (total (frameSizes shape)) e (now (frames .exit)))) ⌝ }
 {
     hash_inputs::draw(6, h1, firsts);
     let mut us = [0u64; 210];
@@ -82,17 +85,8 @@ fn offset_pass(
     let mut lasts = [0u64; 21];
     true_rows::true_rows(shape, inputs, inverses, &mut us, &mut vs, &mut lasts);
     offset_frames::offset_frames(shape, &us, &vs, &lasts, firsts, frames);
-}
-
-// "2: h1, all product offsets; gives h2, 32 bytes."
-fn hash_offsets(shape: Shape, h1: &[u8], frames: &[u8]) -> [u8; 32]
-    requires { ⌜ Frames shape (now frames) × (length (now h1) ≡ 32) ⌝ }
-    ensures { λ r. ⌜ r
-        ≡ secondHash (aesScheme shape) (now (h1 .entry))
-        (λ e. part (offsetsAt shape + 216) (21 * shape .wide) (row (total (frameSizes shape)) e (now (frames .entry)))) ⌝ }
-{
-    let len = 248 + 16 * shape.depth + 42 * shape.wide;
-    let p = shape.depth * 16 + 32 + 216;
+    let p = 248 + 16 * shape.depth;
+    let len = p + 42 * shape.wide;
     let s = hash_inputs::tagged(2, h1);
     let t = absorb_rows::absorb_column(s, shape.executions, len, p, 21 * shape.wide, frames);
     let mut h = [0u8; 32];
@@ -126,8 +120,9 @@ fn open_pass(
 {
     let w = shape.executions * shape.wide;
     let size = shape.parties * (16 + 21 * shape.wide);
-    let mut seconds = [0u8; 1536];
-    hash_inputs::draw(7, h2, &mut seconds[0..w]);
+    let mut room = [0u8; 1536];
+    let seconds = &mut room[0..w];
+    hash_inputs::draw(7, h2, seconds);
     let s = hash_inputs::tagged(3, h2);
     let t = open_frames::open_frames(
         shape,
@@ -135,7 +130,7 @@ fn open_pass(
         roots,
         &public[0..16],
         firsts,
-        &seconds[0..w],
+        seconds,
         frames,
         &mut work[0..size],
         s,
@@ -153,58 +148,37 @@ fn finish_pass(shape: Shape, salt: &[u8], roots: &[u8], h3: &[u8], frames: &mut 
         (hiddenParty (aesScheme shape) (now (h3 .entry)) e) (row (total (frameSizes shape)) e (now (frames .entry)))) (shape .executions) ⌝ }
 {
     let p = shape.executions * 4;
-    let mut thirds = [0u8; 1024];
-    hash_inputs::draw(8, h3, &mut thirds[0..p]);
-    finish_frames::finish_frames(shape, salt, roots, &thirds[0..p], frames);
+    let mut room = [0u8; 1024];
+    let thirds = &mut room[0..p];
+    hash_inputs::draw(8, h3, thirds);
+    finish_frames::finish_frames(shape, salt, roots, thirds, frames);
 }
 
-// The key, and the inverses of the S-boxes' inputs behind it.
-fn join(key: &[u8], inverses: &[u8]) -> [u8; 216]
-    requires { ⌜ (length (now key) ≡ 16) × (length (now inverses) ≡ 200) ⌝ }
-    ensures { λ r. ⌜ r ≡ now (key .entry) ++ now (inverses .entry) ⌝ }
-{
-    let mut witness = [0u8; 216];
-    slices::copy_at(&mut witness, 0, key);
-    slices::copy_at(&mut witness, 16, inverses);
-    witness
-}
-
-// All frames; h1 and h3.
-fn make_frames(
+// What follows h1: the rest of the frames, and h3.
+fn answer_passes(
     shape: Shape,
-    key: &[u8],
     public: &[u8],
-    message: &[u8],
     salt: &[u8],
     roots: &[u8],
     inputs: &[u8],
     inverses: &[u8],
-    firsts: &mut [u8],
+    h1: &[u8],
     frames: &mut [u8],
     work: &mut [u8],
-) -> Heads
-    requires { ⌜ Given shape (now key) (now public) (now salt) (now roots) (now inputs) (now inverses)
-        × (length (now firsts) ≡ shape .executions * firstChallengeLength shape)
-        × (length (now frames) ≡ shape .executions * total (frameSizes shape)) × (65536 ≤ length (now work)) ⌝ }
-    ensures { λ r. ⌜ r .first
-        ≡ signerH1 (aesScheme shape) (now (key .entry)) (now (public .entry)) (now (message .entry)) (now (salt .entry)) (now (roots .entry)) ⌝ }
-    ensures { λ r. ⌜ r .third
-        ≡ signerH3 (aesScheme shape) (now (key .entry)) (now (public .entry)) (now (message .entry)) (now (salt .entry)) (now (roots .entry)) ⌝ }
-    ensures { λ _. ⌜ now (frames .exit)
-        ≡ rows (signerFrame (aesScheme shape) (now (key .entry)) (now (public .entry)) (now (message .entry)) (now (salt .entry)) (now (roots .entry)))
-        (shape .executions) ⌝ }
+) -> [u8; 32]
+    requires { ⌜ Frames shape (now frames) × (length (now public) ≡ 32) × (length (now salt) ≡ 32) × (length (now roots) ≡ shape .executions * 16)
+        × (length (now inputs) ≡ 200) × (length (now inverses) ≡ 200) × (length (now h1) ≡ 32) × (65536 ≤ length (now work)) ⌝ }
+    ensures { λ r. ⌜ Answered shape (now (public .entry)) (now (salt .entry)) (now (roots .entry)) (now (inputs .entry)) (now (inverses .entry))
+        (now (h1 .entry)) (now (frames .entry)) r (now (frames .exit)) ⌝ }
     ensures { λ _. ⌜ Scratch (now (work .entry)) (now (work .exit)) ⌝ }
 {
-    let witness = join(key, inverses);
-    let h1 = commit_pass(shape, public, message, salt, roots, &witness, frames, work);
-    offset_pass(shape, inputs, inverses, &h1, firsts, frames);
-    let h2 = hash_offsets(shape, &h1, frames);
+    let n = shape.executions * (shape.m1 * shape.wide);
+    let mut room = [0u8; 15360];
+    let firsts = &mut room[0..n];
+    let h2 = offset_pass(shape, inputs, inverses, h1, firsts, frames);
     let h3 = open_pass(shape, public, salt, roots, &h2, firsts, frames, work);
     finish_pass(shape, salt, roots, &h3, frames);
-    Heads {
-        first: h1,
-        third: h3,
-    }
+    h3
 }
 
 // The signature, into a slice of its length; the work slice's front is scratch.
@@ -226,25 +200,31 @@ pub fn make(
         ≡ signature (aesScheme shape) (now (key .entry)) (now (public .entry)) (now (message .entry)) (now (salt .entry)) (now (roots .entry)) ⌝ }
     ensures { λ _. ⌜ Scratch (now (work .entry)) (now (work .exit)) ⌝ }
 {
-    let n = shape.executions * (shape.m1 * shape.wide);
     let end = out.len();
-    let mut firsts = [0u8; 15360];
-    let heads = make_frames(
+    let frames = &mut out[96..end];
+    let h1 = commit_pass(
         shape,
         key,
+        inverses,
         public,
         message,
         salt,
         roots,
-        inputs,
-        inverses,
-        &mut firsts[0..n],
-        &mut out[96..end],
+        frames,
         work,
     );
-    let first = heads.first;
-    let third = heads.third;
+    let h3 = answer_passes(
+        shape,
+        public,
+        salt,
+        roots,
+        inputs,
+        inverses,
+        &h1,
+        frames,
+        work,
+    );
     slices::copy_at(out, 0, salt);
-    slices::copy_at(out, 32, &first);
-    slices::copy_at(out, 64, &third);
+    slices::copy_at(out, 32, &h1);
+    slices::copy_at(out, 64, &h3);
 }

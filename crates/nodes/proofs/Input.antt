@@ -1,37 +1,20 @@
 -- The hash's input, in a buffer of 54 bytes. Assumes nothing.
-use mathlib.Core.Path.{_≡_, sym, ap, ap₂, _∙_}
-use mathlib.Core.List.{List, _∷_, _++_, append-nil, append-assoc}
+use mathlib.Core.Path.{_≡_, sym, ap, _∙_}
+use mathlib.Core.List.{List, _∷_, _++_, append-assoc}
 use Prim.Native.Nat.{ℕ}
 use native.Mathlib.Omega.{arith}
-use borrow.Rule.Slice.PartMut.{putMid}
-use lib.ListN.{length, drop, replicate, length-append}
-use lib.Seq.{take-at, drop-at}
-use Rattle.slices.specs.Numbers.{bytesOf, length-bytesOf}
+use lib.ListN.{length, replicate, length-append}
+use Rattle.slices.specs.Lists.{put}
+use Rattle.slices.specs.Numbers.{bytesOf}
+use Rattle.slices.proofs.Put.{put-last}
 
--- the buffer once byte and number are stored
-abbrev pub stored : ℕ → ℕ → List ℕ
-stored e v = 5 ∷ (replicate 32 0 ++ e ∷ (bytesOf 4 v ++ replicate 16 0))
-
--- w is the buffer; salt and seed were copied into it as y and z
-module _ (e v : ℕ) (salt seed : List ℕ) {w y : List ℕ} (k : length salt ≡ 32) (store : w ≡ stored e v) (copy : y ≡ salt) where
-  abbrev p : List ℕ
-  p = 5 ∷ (salt ++ e ∷ bytesOf 4 v)
-
-  long : length p ≡ 38
-  long = simp (length-append, length-bytesOf) (omega arith)
-
-  split : (s : List ℕ) → 5 ∷ (salt ++ e ∷ (bytesOf 4 v ++ s)) ≡ p ++ s
-  split s = simp append-assoc
-
-  with-salt : putMid 1 32 w y ≡ p ++ replicate 16 0
-  with-salt = ap₂ (putMid 1 32) store copy ∙ split (replicate 16 0)
-
-  pub salt-long : length (putMid 1 32 w y) ≡ 54
-  salt-long = ap length with-salt ∙ length-append p (replicate 16 0) ∙ omega (arith, long)
-
-  pub buffer : {z : List ℕ} → z ≡ seed → putMid 38 16 (putMid 1 32 w y) z ≡ 5 ∷ (salt ++ e ∷ (bytesOf 4 v ++ seed))
-  buffer {z} copy2 =
-      ap₂ (putMid 38 16) with-salt copy2
-      ∙ ap₂ _++_ (take-at p (replicate 16 0) 38 long)
-      (ap (λ (l : List ℕ). seed ++ drop 16 l) (drop-at p (replicate 16 0) 38 long) ∙ append-nil seed)
-      ∙ sym (split seed)
+-- byte and number are stored as w; then the salt is written, and then the seed
+pub buffer : (e v : ℕ) (salt seed : List ℕ) {w y z : List ℕ} → (length salt ≡ 32) × (length seed ≡ 16)
+    → w ≡ put (5 ∷ (replicate 32 0 ++ e ∷ replicate 20 0)) 34 (bytesOf 4 v) → y ≡ put w 1 salt → z ≡ put y 38 seed
+    → z ≡ 5 ∷ (salt ++ e ∷ (bytesOf 4 v ++ seed))
+unfolding put bytesOf
+buffer e v salt seed {w} {y} h store copy copy2 =
+    let p : List ℕ = 5 ∷ (salt ++ e ∷ bytesOf 4 v) in
+    let salted : y ≡ p ++ replicate 16 0 = copy ∙ rw (store, h .0) (simp append-assoc) in
+    let long : length p ≡ 38 = simp length-append (omega (arith, h .0)) in
+    copy2 ∙ ap (λ (l : List ℕ). put l 38 seed) salted ∙ put-last p (replicate 16 0) seed long (sym (h .1)) ∙ simp append-assoc

@@ -13,8 +13,8 @@ pub fn children(salt: &[u8], e: u8, node: usize, seed: &[u8]) -> [u8; 32]
     m[0] = 5;
     m[33] = e;
     numbers::store(&mut m, 34, 4, node as u64);
-    slices::copy(&mut m[1..33], salt);
-    slices::copy(&mut m[38..54], seed);
+    slices::copy_at(&mut m, 1, salt);
+    slices::copy_at(&mut m, 38, seed);
     let mut pair = [0u8; 32];
     sponge::digest(&m, &mut pair);
     pair

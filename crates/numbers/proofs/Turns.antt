@@ -22,14 +22,14 @@ unfolding number
 one-more s a n h = rw (drop-cons s a 0 h)
 
 -- a turn: the byte below
-pub next-byte : (s : List ℕ) (at w k : ℕ) {x b : ℕ} → 1 ≤ k → k ≤ w → at + w ≤ length s → x ≡ number (part (at + k) (w - k) s)
-    → b ≡ getD s (at + (k - 1)) 0 → x * 256 + b ≡ number (part (at + (k - 1)) (w - (k - 1)) s)
-next-byte s at w k {x} {b} h l f e g =
+pub next-byte : (s : List ℕ) (at w k : ℕ) {x : ℕ} → 1 ≤ k → k ≤ w → at + w ≤ length s → x ≡ number (part (at + k) (w - k) s)
+    → getD s (at + (k - 1)) 0 + x * 256 ≡ number (part (at + (k - 1)) (w - (k - 1)) s)
+next-byte s at w k {x} h l f e =
     let n : w - (k - 1) ≡ suc (w - k) = omega arith in
     let a : at + k ≡ suc (at + (k - 1)) = omega arith in
     let i : at + (k - 1) < length s = omega arith in
     let e' : x ≡ number (part (suc (at + (k - 1))) (w - k) s) = rw (← a) e in
-    rw n (omega (arith, one-more s (at + (k - 1)) (w - k) i, e', g))
+    rw n (omega (arith, one-more s (at + (k - 1)) (w - k) i, e'))
 
 -- ---- store: the lowest i bytes of x are written
 

@@ -5,12 +5,6 @@ ghost use lib.ListN.{length};
 ghost use Rattle.slices.specs.Lists.{part, put};
 ghost use Rattle.slices.specs.Numbers.{number, bytesOf};
 
-fn wide(x: u8) -> u64
-    ensures { λ r. ⌜ r ≡ x ⌝ }
-{
-    x as u64
-}
-
 // The number of w bytes at index at.
 pub fn load(s: &[u8], at: usize, w: usize) -> u64
     requires { ⌜ (w ≤ 8) × (at + w ≤ length (now s)) ⌝ }
@@ -20,8 +14,7 @@ pub fn load(s: &[u8], at: usize, w: usize) -> u64
     let mut k = w;
     while 0 < k {
         k -= 1;
-        let b = wide(s[at + k]);
-        x = x * 256 + b;
+        x = s[at + k] as u64 + x * 256;
     }
     x
 }

@@ -23,10 +23,10 @@ module _ {S : Shape} (v : Valid S) (frame : List ℕ) (h : length frame ≡ tota
   sum-size = omega (arith, tape-total v)
 
   -- the product offsets are written over its product shares
-  pub offset-made : (us vs lasts first : List ℕ) {products front out : List ℕ}
-      → products ≡ workedOffsets S us vs lasts (take (end - offsetsAt S) (drop (offsetsAt S) frame)) first → front ≡ products
-      → out ≡ put frame (offsetsAt S + 216) front → out ≡ offsetFrame S us vs lasts first frame
+  pub offset-made : (us vs lasts first : List ℕ) {products out : List ℕ}
+      → products ≡ workedOffsets S us vs lasts (take (end - offsetsAt S) (drop (offsetsAt S) frame)) first
+      → out ≡ put frame (offsetsAt S + 216) products → out ≡ offsetFrame S us vs lasts first frame
   unfolding offsetFrame
-  offset-made us vs lasts first made read e =
+  offset-made us vs lasts first made e =
       e ∙ ap (put frame (offsetsAt S + 216))
-      (read ∙ made ∙ ap (λ k. workedOffsets S us vs lasts (take k (drop (offsetsAt S) frame)) first) sum-size)
+      (made ∙ ap (λ k. workedOffsets S us vs lasts (take k (drop (offsetsAt S) frame)) first) sum-size)

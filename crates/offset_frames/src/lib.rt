@@ -20,17 +20,10 @@ fn offset_frame(shape: Shape, us: &[u64], vs: &[u64], lasts: &[u64], first: &[u8
     let p = k + 216;
     let b = p + 41 * shape.wide;
     let n = 21 * shape.wide;
-    let mut products = [0u8; 126];
-    product_offsets::product_offsets(
-        shape,
-        us,
-        vs,
-        lasts,
-        &frame[k..b],
-        first,
-        &mut products[0..n],
-    );
-    slices::copy_at(frame, p, &products[0..n]);
+    let mut room = [0u8; 126];
+    let products = &mut room[0..n];
+    product_offsets::product_offsets(shape, us, vs, lasts, &frame[k..b], first, products);
+    slices::copy_at(frame, p, products);
 }
 
 // Those of all executions. `us`, `vs` and `lasts` are the rows and Lagrange's values at the points 20 to 40.

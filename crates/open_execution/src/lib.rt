@@ -8,63 +8,10 @@ ghost use Rattle.banquet.specs.Shape.{openingLength};
 ghost use Rattle.banquet.specs.Sets.{aesScheme};
 ghost use Rattle.banquet.specs.Calls.{openExecution};
 ghost use Rattle.sets.specs.Valid.{Valid};
-ghost use Rattle.make_opening.specs.Steps.{Lengths, Ranges};
+ghost use Rattle.make_opening.specs.Steps.{Lengths};
 
-// The call where lengths and numbers are right: 11 and 12, and else the opening.
+// The call where lengths are right: 8 to 12, and else the opening.
 fn open_key(
-    shape: Shape,
-    key: &[u8],
-    public: &[u8],
-    salt: &[u8],
-    root: &[u8],
-    first: &[u8],
-    e: usize,
-    second: u64,
-    hidden: usize,
-    out: &mut [u8],
-    work: &mut [u8],
-) -> Answer
-    requires { ⌜ Lengths shape (now key) (now public) (now salt) (now root) (now first)
-        × Ranges shape e second hidden × (openingLength shape ≤ length (now out)) × (65536 ≤ length (now work)) ⌝ }
-    ensures { λ r. ⌜ r
-        ≡ openExecution (aesScheme shape) (now (key .entry)) (now (public .entry)) (now (salt .entry)) (now (root .entry)) (now (first .entry))
-        e second hidden (now (out .entry)) (now (work .entry)) .answer ⌝ }
-    ensures { λ _. ⌜ now (out .exit)
-        ≡ openExecution (aesScheme shape) (now (key .entry)) (now (public .entry)) (now (salt .entry)) (now (root .entry)) (now (first .entry))
-        e second hidden (now (out .entry)) (now (work .entry)) .output ⌝ }
-    ensures { λ _. ⌜ now (work .exit)
-        ≡ openExecution (aesScheme shape) (now (key .entry)) (now (public .entry)) (now (salt .entry)) (now (root .entry)) (now (first .entry))
-        e second hidden (now (out .entry)) (now (work .entry)) .work ⌝ }
-{
-    let mut inputs = [0u8; 200];
-    let answer = check_key::check_key(shape, key, public, &mut inputs);
-    match answer {
-        Answer::Accepted => {}
-        _ => return answer,
-    }
-    let mut inverses = inputs;
-    sbox_inputs::invert(&mut inverses);
-    make_opening::make(
-        shape,
-        key,
-        public,
-        salt,
-        root,
-        first,
-        e as u8,
-        second,
-        hidden,
-        &inputs,
-        &inverses,
-        out,
-        work,
-    );
-    scratch::clear(work);
-    Answer::Accepted
-}
-
-// The call where lengths are right: 8, 9 and 10.
-fn open_ranges(
     shape: Shape,
     key: &[u8],
     public: &[u8],
@@ -98,19 +45,31 @@ fn open_ranges(
     if second < (shape.m2 as u64) {
         return Answer::SecondChallengeRange;
     }
-    open_key(
+    let mut inputs = [0u8; 200];
+    let answer = check_key::check_key(shape, key, public, &mut inputs);
+    match answer {
+        Answer::Accepted => {}
+        _ => return answer,
+    }
+    let mut inverses = inputs;
+    sbox_inputs::invert(&mut inverses);
+    make_opening::make(
         shape,
         key,
         public,
         salt,
         root,
         first,
-        e,
+        e as u8,
         second,
         hidden,
+        &inputs,
+        &inverses,
         out,
         work,
-    )
+    );
+    scratch::clear(work);
+    Answer::Accepted
 }
 
 // The call, which refuses by lengths first.
@@ -159,7 +118,7 @@ pub fn open_execution(
     if work.len() < 65536 {
         return Answer::WorkLength;
     }
-    open_ranges(
+    open_key(
         shape,
         key,
         public,

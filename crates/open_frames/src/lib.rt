@@ -37,16 +37,17 @@ fn open_rows(
 {
     let seeds = leaf_seeds::leaf_seeds(shape, salt, e, root);
     let sizes = frames::frame_sizes(shape);
+    let all: &[usize] = &sizes;
     execution::share_rows(
         shape,
         salt,
         e,
         &seeds,
         front,
-        fields::field(&sizes, 2, frame),
-        fields::field(&sizes, 3, frame),
+        fields::field(all, 2, frame),
+        fields::field(all, 3, frame),
         first,
-        fields::field(&sizes, 4, frame),
+        fields::field(all, 4, frame),
         second,
         rows,
     );
@@ -74,13 +75,15 @@ fn open_frame(
         ≡ absorbed s (openedPart shape (now (front .entry)) (now (salt .entry)) (now (root .entry)) e (now (first .entry)) second (now (frame .entry))) ⌝ }
 {
     open_rows(shape, salt, e, root, front, first, second, frame, rows);
-    let len = 16 + 21 * shape.wide;
+    let w = 21 * shape.wide;
+    let len = 16 + w;
     let mut sums = [0u8; 142];
     row_sums::sum_rows(shape.parties, rows, &mut sums[0..len]);
-    let q = shape.depth * 16 + 248 + 21 * shape.wide;
-    slices::copy_at(frame, q, &sums[16..len]);
-    let t = absorb::absorb(s, &sums[16..len]);
-    absorb_rows::absorb_column(t, shape.parties, len, 16, 21 * shape.wide, rows)
+    let opened = &sums[16..len];
+    let q = shape.depth * 16 + 248 + w;
+    slices::copy_at(frame, q, opened);
+    let t = absorb::absorb(s, opened);
+    absorb_rows::absorb_column(t, shape.parties, len, 16, w, rows)
 }
 
 // Those of all executions. `firsts` and `seconds` are the bytes drawn for the challenges.

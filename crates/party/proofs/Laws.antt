@@ -1,31 +1,26 @@
 -- A hash's input in one buffer, and the hash of a row. Assumes nothing.
-use mathlib.Core.Path.{_≡_, _∙_}
-use mathlib.Core.List.{List, _∷_, _++_, append-nil, append-assoc}
-use Prim.Native.Nat.{ℕ, _+_, _-_, _*_, _≤_}
+use mathlib.Core.Path.{_≡_, sym, ap, _∙_}
+use mathlib.Core.List.{List, [], _∷_, _++_, append-assoc}
+use Prim.Native.Nat.{ℕ, _+_, _-_, _*_}
 use native.Mathlib.Omega.{arith}
-use lib.ListN.{length, take, drop, length-append, drop-of-length-le}
-use lib.Seq.{take-at, drop-at}
-use borrow.Rule.Slice.PartMut.{putMid}
-use Rattle.slices.specs.Lists.{row}
+use lib.ListN.{length, take, drop, replicate, length-append}
+use Rattle.slices.specs.Lists.{put, row}
+use Rattle.slices.proofs.Put.{put-last}
 use Rattle.slices.proofs.Rows.{row-cut}
 use Rattle.shake.specs.Laws.{length-shake}
 use Rattle.party.specs.Party.{partyHash}
 
 -- ---- a buffer for a hash's input
 
--- a part z that was lent at the end of a buffer comes back
-put-last : (p q z : List ℕ) {a k : ℕ} → length p ≡ a → length q ≡ k → putMid a k (p ++ q) z ≡ p ++ z
-put-last p q z {a} {k} h e =
-    let none : length q ≤ k = omega arith in
-    rw (take-at p q a h, drop-at p q a h, drop-of-length-le q none, append-nil)
-
--- the tag, then the salt s (copied as y), then bytes m, and behind these the seed t (copied as z)
-pub buffer : (a tag : ℕ) (m q : List ℕ) {s t y z : List ℕ} → y ≡ s → z ≡ t → 1 + length s + length m ≡ a → length q ≡ 16
-    → putMid a 16 (tag ∷ y ++ (m ++ q)) z ≡ tag ∷ s ++ (m ++ t)
-buffer a tag m q {s} {t} e f h k =
-    let split : tag ∷ s ++ (m ++ q) ≡ (tag ∷ s ++ m) ++ q = simp append-assoc in
-    let filled : length (tag ∷ s ++ m) ≡ a = simp length-append (omega arith) in
-    rw (e, f, split) (put-last (tag ∷ s ++ m) q t filled k ∙ simp append-assoc)
+-- tag, e and i are stored; then the salt is written, and then the seed
+pub buffer : (tag e i : ℕ) (salt seed : List ℕ) {y z : List ℕ} → (length salt ≡ 32) × (length seed ≡ 16)
+    → y ≡ put (tag ∷ (replicate 32 0 ++ e ∷ i ∷ replicate 16 0)) 1 salt → z ≡ put y 35 seed → z ≡ tag ∷ (salt ++ e ∷ i ∷ seed)
+unfolding put
+buffer tag e i salt seed {y} h w x =
+    let p : List ℕ = tag ∷ (salt ++ e ∷ i ∷ []) in
+    let salted : y ≡ p ++ replicate 16 0 = w ∙ rw (h .0) (simp append-assoc) in
+    let long : length p ≡ 35 = simp length-append (omega (arith, h .0)) in
+    x ∙ ap (λ (l : List ℕ). put l 35 seed) salted ∙ put-last p (replicate 16 0) seed long (sym (h .1)) ∙ simp append-assoc
 
 -- ---- the hash of a row
 

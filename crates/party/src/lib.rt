@@ -14,8 +14,8 @@ pub fn hash(tag: u8, salt: &[u8], e: u8, i: u8, seed: &[u8], out: &mut [u8])
     m[0] = tag;
     m[33] = e;
     m[34] = i;
-    slices::copy(&mut m[1..33], salt);
-    slices::copy(&mut m[35..51], seed);
+    slices::copy_at(&mut m, 1, salt);
+    slices::copy_at(&mut m, 35, seed);
     sponge::digest(&m, out);
 }
 

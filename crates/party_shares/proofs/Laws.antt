@@ -7,9 +7,12 @@ use native.Mathlib.Omega.{arith}
 use lib.Bits.{bitXor}
 use lib.ListN.{length, getD, take, drop, length-take, length-drop, drop-of-length-le}
 use lib.Seq.{length-take-le}
+use mir.Syntax.{w64}
+use mir.Val.{Fits}
 use borrow.Rule.Slice.PartMut.{putMid}
 use Rattle.slices.specs.Lists.{tab, put}
 use Rattle.slices.specs.Tab.{getD-tab, rows-cong}
+use Rattle.slices.specs.Layout.{total}
 use Rattle.slices.specs.Numbers.{bytesOf, numberAt, numbers}
 use Rattle.slices.proofs.Put.{put-mid, length-put, put-pair, wrote-none, wrote-more, wrote-all}
 use Rattle.poly.specs.Index.{at-same, at-other}
@@ -19,6 +22,7 @@ use Rattle.banquet.specs.declared.Shape.{Shape}
 use Rattle.banquet.specs.Sets.{aesScheme}
 use Rattle.banquet.specs.Execution.{Committed, tapePart, inverseShares, inputShares, outputShare}
 use Rattle.sets.specs.Valid.{Valid}
+use Rattle.sets.specs.Bounds.{rowSizes, row-total}
 use Rattle.forms.specs.Point.{tabledRow, valueS, valueT}
 use Rattle.forms.specs.Party.{committed, own, ownProducts, workedC, workedA, workedB, workedRow}
 
@@ -31,6 +35,9 @@ front-long {a} d e h = let z : a - 0 ≡ a = omega arith in rw z (length-take-le
 pub rest-long : (d l : List ℕ) (a : ℕ) {n : ℕ} → length l ≡ length d → length d ≡ a + n → length (take (length d - a) (drop a l)) ≡ n
 rest-long d l a e h = simp (length-take, length-drop) (omega arith)
 
+pub no-shorter : {n m : ℕ} → n ≡ m → m ≤ n
+no-shorter e = omega (arith, e)
+
 pub put-both : (a k : ℕ) (d : List ℕ) {y y′ z z′ : List ℕ} → y ≡ y′ → length y′ ≡ a → z ≡ z′ → length d ≤ a + k
     → putMid a k (putMid 0 (a - 0) d y) z ≡ y′ ++ z′
 put-both a k d e h f room = let z : a - 0 ≡ a = omega arith in rw z (put-pair a k d e h f room)
@@ -39,6 +46,22 @@ module _ {S : Shape} (v : Valid S) where
   open Shape S using (wide, low, m1)
 
   -- ---- numbers that are loaded and stored
+
+  pub drawn-room : {n : ℕ} → n ≡ 2 * m1 * wide → 20 * wide ≤ n
+  drawn-room h = omega (arith, h, ap (λ m. 2 * m * wide) (v .ten))
+
+  pub half-word : Fits w64 (10 * wide)
+  half-word = omega (arith, v .wide-most)
+
+  module _ {n : ℕ} (h : n ≡ 20 * wide) where
+    pub half-room : 10 * wide ≤ n
+    half-room = omega (arith, h)
+
+    pub halves : n ≡ 10 * wide + 10 * wide
+    halves = omega (arith, h)
+
+    pub halves-room : n ≤ 10 * wide + (n - 10 * wide)
+    halves-room = omega (arith, h)
 
   pub store-fits : {n m : ℕ} → m ≡ 10 * wide → n ≡ 10 → (wide ≤ 8) × (m ≡ n * wide)
   store-fits h e = (omega (arith, v .wide-most), rw e h)
@@ -99,6 +122,22 @@ module _ {S : Shape} (v : Valid S) where
         (λ j l. ap (λ s. bytesOf wide (valueT S (tabledRow S inverses tables j) s last)) (extra-at (2 * j + 1) (omega (arith, v .ten))))
 
   -- ---- all of them
+
+  pub row-size : {n : ℕ} → n ≡ total (rowSizes S) → n ≡ 16 + wide + 20 * wide
+  row-size h = omega (arith, h, row-total v)
+
+  module _ {n : ℕ} (h : n ≡ 16 + wide + 20 * wide) where
+    pub output-room : 16 ≤ n
+    output-room = omega (arith, h)
+
+    pub c-room : 16 + wide ≤ n
+    c-room = omega (arith, h)
+
+  pub few-bytes : wide ≤ 8
+  few-bytes = omega (arith, v .wide-most)
+
+  pub c-word : Fits w64 (16 + wide)
+  c-word = omega (arith, v .wide-most)
 
   module _ (front key inverse product first far : List ℕ) (given : ℕ) (tables : List ℕ) (last i : ℕ) (t : List ℕ) where
     abbrev x′ : Committed

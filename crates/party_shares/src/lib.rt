@@ -3,14 +3,13 @@ use banquet::Shape;
 ghost use mathlib.Core.Path.{_≡_};
 ghost use Prim.Native.Nat.{_+_, _*_};
 ghost use mathlib.Core.List.{_++_};
-ghost use lib.ListN.{length, getD};
+ghost use lib.ListN.{length};
 ghost use Rattle.slices.specs.Layout.{total};
 ghost use Rattle.slices.specs.Numbers.{numbers};
 ghost use Rattle.banquet.specs.Shape.{tapeSizes, productPoints};
 ghost use Rattle.banquet.specs.Sets.{aesScheme};
 ghost use Rattle.sets.specs.Valid.{Valid};
 ghost use Rattle.sets.specs.Bounds.{rowSizes};
-ghost use Rattle.forms.specs.Point.{tabledRow, valueS, valueT};
 ghost use Rattle.forms.specs.Party.{committed, workedC, workedA, workedB, workedRow};
 ghost use Rattle.party_shares.specs.Given.{Lengths};
 
@@ -34,45 +33,7 @@ fn opened_c(shape: Shape, i: usize, product: &[u8], tape: &[u8], far: &[u64], gi
     c
 }
 
-// The shares of a: for each j from the bytes of j, times r_j, and the extra point.
-fn opened_a(
-    shape: Shape,
-    first: &[u64],
-    tables: &[u64],
-    last: u64,
-    inputs: &[u8],
-    extra: &[u64],
-    out: &mut [u8],
-)
-    requires { ⌜ Valid shape × (length (now first) ≡ 10) × (length (now tables) ≡ 640) × (length (now inputs) ≡ 200)
-        × (length (now extra) ≡ 20) × (length (now out) ≡ 10 * shape .wide) ⌝ }
-    ensures { λ _. ⌜ now (out .exit)
-        ≡ numbers (shape .wide) (shape .m1) (λ j. valueS shape (getD (now (first .entry)) j 0)
-        (tabledRow shape (now (inputs .entry)) (now (tables .entry)) j) (getD (now (extra .entry)) (2 * j) 0) last) ⌝ }
-{
-    let mut rows = [0u64; 10];
-    opened::rows(shape, inputs, tables, &mut rows);
-    let mut values = [0u64; 10];
-    st_values::values_s(shape, first, &rows, extra, last, &mut values);
-    elements::store(shape.wide, &values, out);
-}
-
-// The shares of b: for each j from the bytes of j and the extra point.
-fn opened_b(shape: Shape, tables: &[u64], last: u64, inverses: &[u8], extra: &[u64], out: &mut [u8])
-    requires { ⌜ Valid shape × (length (now tables) ≡ 640) × (length (now inverses) ≡ 200) × (length (now extra) ≡ 20)
-        × (length (now out) ≡ 10 * shape .wide) ⌝ }
-    ensures { λ _. ⌜ now (out .exit)
-        ≡ numbers (shape .wide) (shape .m1) (λ j. valueT shape (tabledRow shape (now (inverses .entry)) (now (tables .entry)) j)
-        (getD (now (extra .entry)) (2 * j + 1) 0) last) ⌝ }
-{
-    let mut rows = [0u64; 10];
-    opened::rows(shape, inverses, tables, &mut rows);
-    let mut values = [0u64; 10];
-    st_values::values_t(shape, &rows, extra, last, &mut values);
-    elements::store(shape.wide, &values, out);
-}
-
-// The shares of a and then those of b.
+// The shares of a and then those of b: for each j from the bytes of j and the extra point, those of a times r_j.
 fn opened_row(
     shape: Shape,
     first: &[u64],
@@ -90,20 +51,19 @@ fn opened_row(
         ++ numbers (shape .wide) (shape .m1) (workedB shape (now (first .entry)) (now (tables .entry)) last (now (tape .entry))
         (now (inverses .entry))) ⌝ }
 {
-    let mut extra = [0u64; 20];
-    elements::load(shape.wide, tapes::tape_part(shape, 2, tape), &mut extra);
+    let mut drawn = [0u64; 20];
+    elements::load(shape.wide, tapes::tape_part(shape, 2, tape), &mut drawn);
+    let extra: &[u64] = &drawn;
     let half = 10 * shape.wide;
     let whole = out.len();
-    opened_a(
-        shape,
-        first,
-        tables,
-        last,
-        inputs,
-        &extra,
-        &mut out[0..half],
-    );
-    opened_b(shape, tables, last, inverses, &extra, &mut out[half..whole]);
+    let mut rows = [0u64; 10];
+    let mut values = [0u64; 10];
+    opened::rows(shape, inputs, tables, &mut rows);
+    st_values::values_s(shape, first, &rows, extra, last, &mut values);
+    elements::store(shape.wide, &values, &mut out[0..half]);
+    opened::rows(shape, inverses, tables, &mut rows);
+    st_values::values_t(shape, &rows, extra, last, &mut values);
+    elements::store(shape.wide, &values, &mut out[half..whole]);
 }
 
 // All of a party's shares: output, c, a, b. `key`, `inverse` and `product` are the offsets.

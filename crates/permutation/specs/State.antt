@@ -1,12 +1,27 @@
--- The list of lanes that a value of the code's struct stands for.
-use mathlib.Core.List.{List, [], _∷_}
-use Prim.Native.Nat.{ℕ}
-use Rattle.permutation.specs.declared.Lanes.{Lanes}
+-- The lists of lanes that values of the code's structs stand for, and steps of a round on one plane.
+use mathlib.Core.List.{List, [], _∷_, _++_}
+use Prim.Native.Nat.{ℕ, _+_, _-_, _%_, _^_}
+use lib.Bits.{bitAnd, bitXor}
+use lib.ListN.{getD}
+use Rattle.slices.specs.Lists.{tab}
+use Rattle.keccak.specs.Keccak.{rotl}
+use Rattle.permutation.specs.declared.Plane.{Plane}
+use Rattle.permutation.specs.declared.State.{State}
 
-unfoldable pub state : Lanes → List ℕ
-state s =
-    s .l0 ∷ s .l1 ∷ s .l2 ∷ s .l3 ∷ s .l4
-    ∷ s .l5 ∷ s .l6 ∷ s .l7 ∷ s .l8 ∷ s .l9
-    ∷ s .l10 ∷ s .l11 ∷ s .l12 ∷ s .l13 ∷ s .l14
-    ∷ s .l15 ∷ s .l16 ∷ s .l17 ∷ s .l18 ∷ s .l19
-    ∷ s .l20 ∷ s .l21 ∷ s .l22 ∷ s .l23 ∷ s .l24 ∷ []
+unfoldable pub plane : Plane → List ℕ
+plane p = p .0 ∷ p .1 ∷ p .2 ∷ p .3 ∷ p .4 ∷ []
+
+-- five planes, one after the other
+abbrev pub joined : List ℕ → List ℕ → List ℕ → List ℕ → List ℕ → List ℕ
+joined p q r s t = p ++ (q ++ (r ++ (s ++ t)))
+
+unfoldable pub state : State → List ℕ
+state s = joined (plane (s .0)) (plane (s .1)) (plane (s .2)) (plane (s .3)) (plane (s .4))
+
+-- the lanes of a rotated by the numbers n modulo 64
+unfoldable pub turned : List ℕ → List ℕ → List ℕ
+turned n a = tab (λ x. rotl (getD a x 0) (getD n x 0 % 64)) 5
+
+-- chi
+unfoldable pub mixed : List ℕ → List ℕ
+mixed a = tab (λ x. bitXor (getD a x 0) (bitAnd (2 ^ 64 - 1 - getD a ((x + 1) % 5) 0) (getD a ((x + 2) % 5) 0))) 5

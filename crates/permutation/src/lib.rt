@@ -1,153 +1,86 @@
-// Keccak-f[1600] of FIPS 202, section 3. The steps work on a struct of 25 lanes, so that the compiler holds each in a register or on the stack.
+// Keccak-f[1600] of FIPS 202, section 3. The steps work on structs of lanes, so that the compiler holds each in a register or on the stack.
 ghost use mathlib.Core.Path.{_≡_};
-ghost use Rattle.keccak.specs.Keccak.{theta, rho, pi, chi, iota, round, keccakF};
-ghost use Rattle.permutation.specs.State.{state};
+ghost use mathlib.Core.List.{[], _∷_};
+ghost use Prim.Native.Nat.{_+_, _≤_, _%_};
+ghost use lib.ListN.{getD};
+ghost use Rattle.slices.specs.Lists.{tab, zipXor};
+ghost use Rattle.keccak.specs.Keccak.{rotl, effect, round, keccakF};
+ghost use Rattle.permutation.specs.State.{plane, state, turned, mixed};
 
-// The state: lane A[x, y] of FIPS 202 is the field of number x + 5 y.
-struct Lanes {
-    l0: u64,
-    l1: u64,
-    l2: u64,
-    l3: u64,
-    l4: u64,
-    l5: u64,
-    l6: u64,
-    l7: u64,
-    l8: u64,
-    l9: u64,
-    l10: u64,
-    l11: u64,
-    l12: u64,
-    l13: u64,
-    l14: u64,
-    l15: u64,
-    l16: u64,
-    l17: u64,
-    l18: u64,
-    l19: u64,
-    l20: u64,
-    l21: u64,
-    l22: u64,
-    l23: u64,
-    l24: u64,
+// Five lanes with one y: lane A[x, y] of FIPS 202 is the field of number x.
+struct Plane(u64, u64, u64, u64, u64);
+
+// The state: its five planes, by y.
+struct State(Plane, Plane, Plane, Plane, Plane);
+
+// A lane rotated by n modulo 64.
+fn rotated(a: u64, n: u64) -> u64
+    ensures { λ r. ⌜ r ≡ rotl a (n % 64) ⌝ }
+{
+    let k = n % 64;
+    a << k | a >> (64 - k) % 64
 }
 
-// Algorithm 1, theta.
-fn step_theta(a: Lanes) -> Lanes
-    ensures { λ r. ⌜ state r ≡ theta (state a) ⌝ }
+// A plane, the lane of number x rotated by nx.
+fn rotate(a: Plane, n0: u64, n1: u64, n2: u64, n3: u64, n4: u64) -> Plane
+    ensures { λ r. ⌜ plane r ≡ turned (n0 ∷ n1 ∷ n2 ∷ n3 ∷ n4 ∷ []) (plane a) ⌝ }
 {
-    let c0 = a.l0 ^ a.l5 ^ a.l10 ^ a.l15 ^ a.l20;
-    let c1 = a.l1 ^ a.l6 ^ a.l11 ^ a.l16 ^ a.l21;
-    let c2 = a.l2 ^ a.l7 ^ a.l12 ^ a.l17 ^ a.l22;
-    let c3 = a.l3 ^ a.l8 ^ a.l13 ^ a.l18 ^ a.l23;
-    let c4 = a.l4 ^ a.l9 ^ a.l14 ^ a.l19 ^ a.l24;
-    let d0 = c4 ^ (c1 << 1 | c1 >> 63);
-    let d1 = c0 ^ (c2 << 1 | c2 >> 63);
-    let d2 = c1 ^ (c3 << 1 | c3 >> 63);
-    let d3 = c2 ^ (c4 << 1 | c4 >> 63);
-    let d4 = c3 ^ (c0 << 1 | c0 >> 63);
-    Lanes {
-        l0: a.l0 ^ d0,
-        l1: a.l1 ^ d1,
-        l2: a.l2 ^ d2,
-        l3: a.l3 ^ d3,
-        l4: a.l4 ^ d4,
-        l5: a.l5 ^ d0,
-        l6: a.l6 ^ d1,
-        l7: a.l7 ^ d2,
-        l8: a.l8 ^ d3,
-        l9: a.l9 ^ d4,
-        l10: a.l10 ^ d0,
-        l11: a.l11 ^ d1,
-        l12: a.l12 ^ d2,
-        l13: a.l13 ^ d3,
-        l14: a.l14 ^ d4,
-        l15: a.l15 ^ d0,
-        l16: a.l16 ^ d1,
-        l17: a.l17 ^ d2,
-        l18: a.l18 ^ d3,
-        l19: a.l19 ^ d4,
-        l20: a.l20 ^ d0,
-        l21: a.l21 ^ d1,
-        l22: a.l22 ^ d2,
-        l23: a.l23 ^ d3,
-        l24: a.l24 ^ d4,
-    }
+    Plane(
+        rotated(a.0, n0),
+        rotated(a.1, n1),
+        rotated(a.2, n2),
+        rotated(a.3, n3),
+        rotated(a.4, n4),
+    )
 }
 
-// Algorithms 2 and 3, rho and pi.
-fn step_rho_pi(a: Lanes) -> Lanes
-    ensures { λ r. ⌜ state r ≡ pi (rho (state a)) ⌝ }
+// The sum of two planes.
+fn add(a: Plane, b: Plane) -> Plane
+    ensures { λ r. ⌜ plane r ≡ zipXor (plane a) (plane b) ⌝ }
 {
-    Lanes {
-        l0: a.l0,
-        l1: a.l6 << 44 | a.l6 >> 20,
-        l2: a.l12 << 43 | a.l12 >> 21,
-        l3: a.l18 << 21 | a.l18 >> 43,
-        l4: a.l24 << 14 | a.l24 >> 50,
-        l5: a.l3 << 28 | a.l3 >> 36,
-        l6: a.l9 << 20 | a.l9 >> 44,
-        l7: a.l10 << 3 | a.l10 >> 61,
-        l8: a.l16 << 45 | a.l16 >> 19,
-        l9: a.l22 << 61 | a.l22 >> 3,
-        l10: a.l1 << 1 | a.l1 >> 63,
-        l11: a.l7 << 6 | a.l7 >> 58,
-        l12: a.l13 << 25 | a.l13 >> 39,
-        l13: a.l19 << 8 | a.l19 >> 56,
-        l14: a.l20 << 18 | a.l20 >> 46,
-        l15: a.l4 << 27 | a.l4 >> 37,
-        l16: a.l5 << 36 | a.l5 >> 28,
-        l17: a.l11 << 10 | a.l11 >> 54,
-        l18: a.l17 << 15 | a.l17 >> 49,
-        l19: a.l23 << 56 | a.l23 >> 8,
-        l20: a.l2 << 62 | a.l2 >> 2,
-        l21: a.l8 << 55 | a.l8 >> 9,
-        l22: a.l14 << 39 | a.l14 >> 25,
-        l23: a.l15 << 41 | a.l15 >> 23,
-        l24: a.l21 << 2 | a.l21 >> 62,
-    }
+    Plane(a.0 ^ b.0, a.1 ^ b.1, a.2 ^ b.2, a.3 ^ b.3, a.4 ^ b.4)
 }
 
-// Algorithms 4 and 6, chi and iota.
-fn step_chi_iota(a: Lanes, rc: u64) -> Lanes
-    ensures { λ r. ⌜ state r ≡ iota rc (chi (state a)) ⌝ }
+// Algorithm 1, theta, steps 1 and 2: what step 3 adds to each plane.
+fn effects(s: State) -> Plane
+    ensures { λ r. ⌜ plane r ≡ tab (effect (state s)) 5 ⌝ }
 {
-    Lanes {
-        l0: a.l0 ^ (!a.l1 & a.l2) ^ rc,
-        l1: a.l1 ^ (!a.l2 & a.l3),
-        l2: a.l2 ^ (!a.l3 & a.l4),
-        l3: a.l3 ^ (!a.l4 & a.l0),
-        l4: a.l4 ^ (!a.l0 & a.l1),
-        l5: a.l5 ^ (!a.l6 & a.l7),
-        l6: a.l6 ^ (!a.l7 & a.l8),
-        l7: a.l7 ^ (!a.l8 & a.l9),
-        l8: a.l8 ^ (!a.l9 & a.l5),
-        l9: a.l9 ^ (!a.l5 & a.l6),
-        l10: a.l10 ^ (!a.l11 & a.l12),
-        l11: a.l11 ^ (!a.l12 & a.l13),
-        l12: a.l12 ^ (!a.l13 & a.l14),
-        l13: a.l13 ^ (!a.l14 & a.l10),
-        l14: a.l14 ^ (!a.l10 & a.l11),
-        l15: a.l15 ^ (!a.l16 & a.l17),
-        l16: a.l16 ^ (!a.l17 & a.l18),
-        l17: a.l17 ^ (!a.l18 & a.l19),
-        l18: a.l18 ^ (!a.l19 & a.l15),
-        l19: a.l19 ^ (!a.l15 & a.l16),
-        l20: a.l20 ^ (!a.l21 & a.l22),
-        l21: a.l21 ^ (!a.l22 & a.l23),
-        l22: a.l22 ^ (!a.l23 & a.l24),
-        l23: a.l23 ^ (!a.l24 & a.l20),
-        l24: a.l24 ^ (!a.l20 & a.l21),
-    }
+    let c = add(add(add(add(s.0, s.1), s.2), s.3), s.4);
+    let before = Plane(c.4, c.0, c.1, c.2, c.3);
+    let after = Plane(c.1, c.2, c.3, c.4, c.0);
+    add(before, rotate(after, 1, 1, 1, 1, 1))
 }
 
-// Rnd, one round.
-fn step_round(a: Lanes, rc: u64) -> Lanes
-    ensures { λ r. ⌜ state r ≡ round rc (state a) ⌝ }
+// Algorithm 4, chi, on the plane a0, .. a4.
+fn mix(a0: u64, a1: u64, a2: u64, a3: u64, a4: u64) -> Plane
+    ensures { λ r. ⌜ plane r ≡ mixed (a0 ∷ a1 ∷ a2 ∷ a3 ∷ a4 ∷ []) ⌝ }
 {
-    let t = step_theta(a);
-    let p = step_rho_pi(t);
-    step_chi_iota(p, rc)
+    Plane(
+        a0 ^ (!a1 & a2),
+        a1 ^ (!a2 & a3),
+        a2 ^ (!a3 & a4),
+        a3 ^ (!a4 & a0),
+        a4 ^ (!a0 & a1),
+    )
+}
+
+// Rnd, one round. Step 3 of theta and algorithm 2, rho, give b0, .. b4. Algorithm 3, pi, takes a lane of each for a plane of chi. Algorithm 6, iota.
+fn step_round(s: State, rc: u64) -> State
+    ensures { λ r. ⌜ state r ≡ round rc (state s) ⌝ }
+{
+    let d = effects(s);
+    let b0 = rotate(add(s.0, d), 0, 1, 190, 28, 91);
+    let b1 = rotate(add(s.1, d), 36, 300, 6, 55, 276);
+    let b2 = rotate(add(s.2, d), 3, 10, 171, 153, 231);
+    let b3 = rotate(add(s.3, d), 105, 45, 15, 21, 136);
+    let b4 = rotate(add(s.4, d), 210, 66, 253, 120, 78);
+    let c0 = mix(b0.0, b1.1, b2.2, b3.3, b4.4);
+    let c1 = mix(b0.3, b1.4, b2.0, b3.1, b4.2);
+    let c2 = mix(b0.1, b1.2, b2.3, b3.4, b4.0);
+    let c3 = mix(b0.4, b1.0, b2.1, b3.2, b4.3);
+    let c4 = mix(b0.2, b1.3, b2.4, b3.0, b4.1);
+    let e = Plane(c0.0 ^ rc, c0.1, c0.2, c0.3, c0.4);
+    State(e, c1, c2, c3, c4)
 }
 
 // The round constants.
@@ -178,70 +111,12 @@ const RC: [u64; 24] = [
     0x8000000080008008,
 ];
 
-// The struct of an array.
-fn unpack(a: [u64; 25]) -> Lanes
-    ensures { λ r. ⌜ state r ≡ a ⌝ }
+// Five lanes of an array, from index i on.
+fn cut(a: [u64; 25], i: usize) -> Plane
+    requires { ⌜ i + 5 ≤ 25 ⌝ }
+    ensures { λ r. ⌜ plane r ≡ tab (λ x. getD a (i + x) 0) 5 ⌝ }
 {
-    Lanes {
-        l0: a[0],
-        l1: a[1],
-        l2: a[2],
-        l3: a[3],
-        l4: a[4],
-        l5: a[5],
-        l6: a[6],
-        l7: a[7],
-        l8: a[8],
-        l9: a[9],
-        l10: a[10],
-        l11: a[11],
-        l12: a[12],
-        l13: a[13],
-        l14: a[14],
-        l15: a[15],
-        l16: a[16],
-        l17: a[17],
-        l18: a[18],
-        l19: a[19],
-        l20: a[20],
-        l21: a[21],
-        l22: a[22],
-        l23: a[23],
-        l24: a[24],
-    }
-}
-
-// The array of a struct.
-fn pack(s: Lanes) -> [u64; 25]
-    ensures { λ r. ⌜ r ≡ state s ⌝ }
-{
-    [
-        s.l0,
-        s.l1,
-        s.l2,
-        s.l3,
-        s.l4,
-        s.l5,
-        s.l6,
-        s.l7,
-        s.l8,
-        s.l9,
-        s.l10,
-        s.l11,
-        s.l12,
-        s.l13,
-        s.l14,
-        s.l15,
-        s.l16,
-        s.l17,
-        s.l18,
-        s.l19,
-        s.l20,
-        s.l21,
-        s.l22,
-        s.l23,
-        s.l24,
-    ]
+    Plane(a[i], a[i + 1], a[i + 2], a[i + 3], a[i + 4])
 }
 
 // Algorithm 7, Keccak-p[1600, 24]. A constant is written out wherever it is named, so the table is named before the loop.
@@ -249,11 +124,37 @@ pub fn permute(a: [u64; 25]) -> [u64; 25]
     ensures { λ r. ⌜ r ≡ keccakF a ⌝ }
 {
     let table = RC;
-    let mut s = unpack(a);
+    let mut s = State(cut(a, 0), cut(a, 5), cut(a, 10), cut(a, 15), cut(a, 20));
     for i in 0..24 {
         let rc = table[i];
         let t = step_round(s, rc);
         s = t;
     }
-    pack(s)
+    [
+        s.0.0,
+        s.0.1,
+        s.0.2,
+        s.0.3,
+        s.0.4,
+        s.1.0,
+        s.1.1,
+        s.1.2,
+        s.1.3,
+        s.1.4,
+        s.2.0,
+        s.2.1,
+        s.2.2,
+        s.2.3,
+        s.2.4,
+        s.3.0,
+        s.3.1,
+        s.3.2,
+        s.3.3,
+        s.3.4,
+        s.4.0,
+        s.4.1,
+        s.4.2,
+        s.4.3,
+        s.4.4,
+    ]
 }

@@ -2,10 +2,12 @@
 use mathlib.Core.Path.{_≡_, refl, sym, ap, _∙_}
 use mathlib.Core.Logic.{_≢_}
 use mathlib.Core.List.{List, [], _++_}
-use Prim.Native.Nat.{ℕ, _<_, _≤_}
+use Prim.Native.Nat.{ℕ, _+_, _<_, _≤_}
 use native.Mathlib.Omega.{arith}
 use lib.ListN.{length, take}
 use lib.Seq.{take-all}
+use mir.Syntax.{w8}
+use mir.Val.{Fits}
 use borrow.Author.Tests.{eq-eqb, ne-eqb, le-leb, lt-leb}
 use Rattle.slices.specs.Lists.{put}
 use Rattle.slices.proofs.Put.{front, front-none, front-more}
@@ -18,6 +20,20 @@ use Rattle.banquet.specs.Sets.{baseScheme}
 use Rattle.banquet.specs.Answer.{require, outputAfter}
 use Rattle.banquet.specs.Key.{publicKeyOf, checkInputs}
 use Rattle.banquet.specs.Calls.{publicKeyAnswer}
+
+-- ---- counts
+
+pub in-byte : {n : ℕ} → n < 200 → Fits w8 n
+in-byte h = omega (arith, h)
+
+-- the output has room for the plaintext, and for the ciphertext behind it
+pub plaintext-room : {p n : ℕ} → p ≡ 16 → 32 ≤ n → 0 + p ≤ n
+plaintext-room e h = omega (arith, e, h)
+
+pub ciphertext-room : {c l n : ℕ} → 16 ≡ c → l ≡ n → 32 ≤ n → 16 + c ≤ l
+ciphertext-room e k h = omega (arith, e, k, h)
+
+-- ---- the call
 
 module _ (key plaintext output : List ℕ) where
   abbrev answer : Answer

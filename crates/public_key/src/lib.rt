@@ -1,28 +1,8 @@
 // The first of the five calls: "make a public key (from key and plaintext)".
 use banquet::Answer;
 ghost use mathlib.Core.Path.{_≡_};
-ghost use Prim.Native.Nat.{_≤_};
-ghost use lib.ListN.{length};
 ghost use Rattle.banquet.specs.Sets.{baseScheme};
 ghost use Rattle.banquet.specs.Calls.{makePublicKey};
-
-// The call where every length is right. The key schedule's inputs are tested with the rounds': "Some S-box input under the lent key is zero; place is
-// the lowest S-box."
-fn encrypt_to(key: &[u8], plaintext: &[u8], output: &mut [u8]) -> Answer
-    requires { ⌜ (length (now key) ≡ 16) × (length (now plaintext) ≡ 16) × (32 ≤ length (now output)) ⌝ }
-    ensures { λ r. ⌜ r ≡ makePublicKey baseScheme (now (key .entry)) (now (plaintext .entry)) (now (output .entry)) .answer ⌝ }
-    ensures { λ _. ⌜ now (output .exit) ≡ makePublicKey baseScheme (now (key .entry)) (now (plaintext .entry)) (now (output .entry)) .output ⌝ }
-{
-    let mut inputs = [0u8; 200];
-    let ciphertext = cipher::encrypt(key, plaintext, &mut inputs);
-    let zero = sbox_inputs::first_zero(&inputs[0..200]);
-    if zero < 200 {
-        return Answer::ZeroInput(zero as u8);
-    }
-    slices::copy_at(output, 0, plaintext);
-    slices::copy_at(output, 16, &ciphertext);
-    Answer::Accepted
-}
 
 // "The first that applies is returned." Accepted, the output begins with the public key, and "Output beyond the stated length is untouched"; refused,
 // all of it is.
@@ -39,5 +19,14 @@ pub fn make_public_key(key: &[u8], plaintext: &[u8], output: &mut [u8]) -> Answe
     if output.len() < 32 {
         return Answer::FileLength;
     }
-    encrypt_to(key, plaintext, output)
+    let mut inputs = [0u8; 200];
+    let ciphertext = cipher::encrypt(key, plaintext, &mut inputs);
+    // The key schedule's inputs with the rounds': "Some S-box input under the lent key is zero; place is the lowest S-box."
+    let zero = sbox_inputs::first_zero(&inputs[0..200]);
+    if zero < 200 {
+        return Answer::ZeroInput(zero as u8);
+    }
+    slices::copy_at(output, 0, plaintext);
+    slices::copy_at(output, 16, &ciphertext);
+    Answer::Accepted
 }

@@ -1,8 +1,8 @@
--- What is written for a request that is refused, and for one that is signed. Assumes nothing.
+-- The parts of a request lie within it; what is written for a request that is refused, and for one that is signed. Assumes nothing.
 use mathlib.Core.Path.{_≡_, refl, sym, ap, _∙_}
 use mathlib.Core.Bool.{Bool, false}
 use mathlib.Core.List.{List, [], _++_, append-nil}
-use Prim.Native.Nat.{ℕ}
+use Prim.Native.Nat.{ℕ, _-_, _≤_}
 use native.Mathlib.Omega.{arith}
 use lib.Dec.{eqb}
 use lib.ListN.{length, drop, replicate, drop-of-length-le, length-replicate}
@@ -42,8 +42,44 @@ use Rattle.theorems.specs.SignatureComplete.{signature-size}
 use Rattle.verdict.specs.Refusal.{Refusal, accepted-is-none}
 use Rattle.requests.specs.Requests.{requestAnswer, requestOutput}
 use Rattle.requests.specs.Reading.{form, form-answer}
-use Rattle.requests.specs.Read.{Parts}
+use Rattle.requests.specs.Read.{Read, Parts, seedsEnd, seedsAt, saltAt}
 use Rattle.requests.specs.Accepted.{line-bytes}
+
+-- where the parts of a request lie
+pub record Within (text request : List ℕ) : Type 0 where
+  pub lines : 5 ≤ length text
+  pub seeds : 656 ≤ seedsEnd text
+  pub salt : 32 ≤ seedsAt text
+  pub message : 48 ≤ saltAt text
+  pub message-most : saltAt text - 48 ≤ 32768
+  pub salt-most : saltAt text ≤ length request
+  pub salt-first : saltAt text ≤ seedsAt text
+  pub seeds-most : seedsAt text ≤ length request
+  pub seeds-first : seedsAt text ≤ seedsEnd text
+  pub most : seedsEnd text ≤ length request
+  pub key-most : 16 ≤ length request
+  pub public-most : 48 ≤ length request
+
+pub within : {text request : List ℕ} → Read text request → Within text request
+within {text} {request} k =
+    let long = k .long in
+    let size = k .size in
+    let end : seedsEnd text ≤ 33504 = omega (arith, k .most) in
+    let least : 736 ≤ seedsEnd text = omega arith in
+    record {
+      lines = omega arith;
+      seeds = omega arith;
+      salt = omega arith;
+      message = omega arith;
+      message-most = omega (arith, k .most);
+      salt-most = omega arith;
+      salt-first = omega arith;
+      seeds-most = omega arith;
+      seeds-first = omega arith;
+      most = omega arith;
+      key-most = omega arith;
+      public-most = omega arith;
+    }
 
 -- no refusal has number 0
 refusal-number : (a : Answer) → Refusal a → eqb (verdictOf a .number) 0 ≡ false

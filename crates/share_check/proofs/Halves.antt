@@ -1,16 +1,24 @@
 -- Two halves of one slice, written one after the other and read back. Assumes nothing.
-use mathlib.Core.Path.{_≡_}
+use mathlib.Core.Path.{_≡_, _∙_}
 use mathlib.Core.List.{List, _++_}
-use Prim.Native.Nat.{ℕ, _*_, _/_, _-_}
+use Prim.Native.Nat.{ℕ, _*_, _/_, _-_, _≤_}
 use native.Mathlib.Nat.{sub-zero}
 use native.Mathlib.Omega.{arith}
 use lib.ListN.{length, take, drop, length-append, length-take, length-drop}
 use lib.Seq.{take-all, take-at, drop-at}
 use borrow.Rule.Slice.PartMut.{putMid}
-use Rattle.slices.proofs.Put.{put-pair}
+use Rattle.slices.proofs.Put.{put-pair, front-long}
+
+pub half-le : (n : ℕ) → n / 2 ≤ n
+half-le n = omega arith
 
 module _ (w : List ℕ) (n : ℕ) (long : length w ≡ 2 * n) where
   -- lent and written one after the other
+  pub first-lent : length (take (length w / 2 - 0) w) ≡ n
+  first-lent =
+      let half : length w / 2 ≡ n = omega arith in
+      front-long (length w / 2) w (omega arith) ∙ half
+
   pub second-lent : (l : List ℕ) → length l ≡ length w → length (take (length w - length w / 2) (drop (length w / 2) l)) ≡ n
   second-lent l h = simp (length-take, length-drop) (omega arith)
 

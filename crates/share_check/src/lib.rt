@@ -14,38 +14,7 @@ ghost use Rattle.sets.specs.Bounds.{rowSizes};
 ghost use Rattle.forms.specs.Stated.{statedRow};
 ghost use Rattle.share_check.specs.Steps.{Given, madeRow, rowsAnswer};
 
-// The rows of all parties as they are worked out from the seeds.
-fn made_rows(
-    shape: Shape,
-    public: &[u8],
-    transcript: &[u8],
-    e: u8,
-    second: u64,
-    seeds: &[u8],
-    out: &mut [u8],
-)
-    requires { ⌜ Given shape (now public) (now transcript) e second × (shape .parties * 16 ≤ length (now seeds))
-        × (length (now out) ≡ shape .parties * total (rowSizes shape)) ⌝ }
-    ensures { λ _. ⌜ now (out .exit)
-        ≡ rowsOf (madeRow shape (now (public .entry)) (now (transcript .entry)) (now (seeds .entry))) (shape .parties) ⌝ }
-{
-    let sizes = opening_sizes::transcript_sizes(shape);
-    execution::share_rows(
-        shape,
-        fields::field(&sizes, 0, transcript),
-        e,
-        seeds,
-        &public[0..16],
-        fields::field(&sizes, 4, transcript),
-        fields::field(&sizes, 5, transcript),
-        fields::field(&sizes, 6, transcript),
-        fields::field(&sizes, 7, transcript),
-        second,
-        out,
-    );
-}
-
-// The stated rows, and behind them those worked out.
+// The stated rows of all parties, and behind them those worked out from the seeds.
 fn fill_rows(
     shape: Shape,
     public: &[u8],
@@ -61,16 +30,21 @@ fn fill_rows(
         ≡ rowsOf (statedRow shape (now (transcript .entry))) (shape .parties)
         ++ rowsOf (madeRow shape (now (public .entry)) (now (transcript .entry)) (now (seeds .entry))) (shape .parties) ⌝ }
 {
+    let sizes: &[usize] = &opening_sizes::transcript_sizes(shape);
     let whole = rows.len();
     let half = whole / 2;
     stated::rows(shape, transcript, &mut rows[0..half]);
-    made_rows(
+    execution::share_rows(
         shape,
-        public,
-        transcript,
+        fields::field(sizes, 0, transcript),
         e,
-        second,
         seeds,
+        &public[0..16],
+        fields::field(sizes, 4, transcript),
+        fields::field(sizes, 5, transcript),
+        fields::field(sizes, 6, transcript),
+        fields::field(sizes, 7, transcript),
+        second,
         &mut rows[half..whole],
     );
 }

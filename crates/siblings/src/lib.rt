@@ -23,28 +23,24 @@ pub fn sibling_seeds(
         let seeds = nodes::children(salt, e, node, seed);
         let end = out.len();
         let half = 1 << (depth - 1);
-        if hidden < half {
-            slices::copy(&mut out[0..16], &seeds[16..32]);
-            sibling_seeds(
-                depth - 1,
-                salt,
-                e,
-                2 * node + 1,
-                &seeds[0..16],
-                hidden,
-                &mut out[16..end],
-            );
-        } else {
-            slices::copy(&mut out[0..16], &seeds[0..16]);
-            sibling_seeds(
-                depth - 1,
-                salt,
-                e,
-                2 * node + 2,
-                &seeds[16..32],
-                hidden - half,
-                &mut out[16..end],
-            );
+        let mut child = 2 * node + 1;
+        let mut leaf = hidden;
+        let mut own = 0;
+        if half <= hidden {
+            child += 1;
+            leaf -= half;
+            own = 16;
         }
+        let other = 16 - own;
+        slices::copy_at(out, 0, &seeds[other..other + 16]);
+        sibling_seeds(
+            depth - 1,
+            salt,
+            e,
+            child,
+            &seeds[own..own + 16],
+            leaf,
+            &mut out[16..end],
+        );
     }
 }

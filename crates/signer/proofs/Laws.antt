@@ -23,9 +23,18 @@ module _ {S : Shape} (v : Valid S) where
   unfolding partyHash tape
   tapes-summed salt seeds e l h = h ∙ ap (λ n. sumXor parties (λ i. partyHash 4 salt e i (row 16 i seeds) n)) l
 
+  pub few-parties : parties ≤ 256
+  few-parties = omega (arith, v .few)
+
   -- a tape's length, as it is worked out
   pub sizes-fit : {sizes : List ℕ} → sizes ≡ tapeSizes S → (4 ≤ length sizes) × (total sizes < 2 ^ 63)
   sizes-fit e = rw e (omega arith, omega (arith, tape-most v))
 
   pub size-is : {sizes : List ℕ} {n : ℕ} → sizes ≡ tapeSizes S → n ≡ total (take 4 sizes) → n ≡ total (tapeSizes S)
   size-is e h = h ∙ ap (λ s. total (take 4 s)) e
+
+  pub tape-room : {n : ℕ} → n ≡ total (tapeSizes S) → n ≤ 462
+  tape-room h = omega (arith, h, tape-most v)
+
+  pub hash-room : {n : ℕ} → n ≡ total (tapeSizes S) → n ≤ 512
+  hash-room h = omega (arith, h, tape-most v)

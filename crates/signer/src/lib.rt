@@ -40,42 +40,6 @@ fn byte_offsets(
     offset_of(inverses, tapes::tape_part(shape, 1, sum), inverse);
 }
 
-// All offsets, with scratch for the sum of the tapes.
-fn offsets_under(
-    shape: Shape,
-    salt: &[u8],
-    e: u8,
-    seeds: &[u8],
-    key: &[u8],
-    inverses: &[u8],
-    us: &[u64],
-    vs: &[u64],
-    lasts: &[u64],
-    first: &[u8],
-    sum: &mut [u8],
-    offset: &mut [u8],
-    inverse: &mut [u8],
-    product: &mut [u8],
-)
-    requires { ⌜ Rows shape (now us) (now vs) (now lasts) × (length (now salt) ≡ 32) × (shape .parties * 16 ≤ length (now seeds))
-        × (length (now key) ≡ 16) × (length (now inverses) ≡ 200) × (length (now first) ≡ firstChallengeLength shape)
-        × (length (now sum) ≡ total (tapeSizes shape)) × (length (now offset) ≡ 16) × (length (now inverse) ≡ 200)
-        × (length (now product) ≡ productPoints shape * shape .wide) ⌝ }
-    ensures { λ _. ⌜ now (offset .exit)
-        ≡ zipXor (now (key .entry)) (tapePart (aesScheme shape) 0 (sumXor (shape .parties)
-        (λ i. tape (aesScheme shape) (now (salt .entry)) e i (row 16 i (now (seeds .entry)))))) ⌝ }
-    ensures { λ _. ⌜ now (inverse .exit)
-        ≡ zipXor (now (inverses .entry)) (tapePart (aesScheme shape) 1 (sumXor (shape .parties)
-        (λ i. tape (aesScheme shape) (now (salt .entry)) e i (row 16 i (now (seeds .entry)))))) ⌝ }
-    ensures { λ _. ⌜ now (product .exit)
-        ≡ workedOffsets shape (now (us .entry)) (now (vs .entry)) (now (lasts .entry)) (sumXor (shape .parties)
-        (λ i. tape (aesScheme shape) (now (salt .entry)) e i (row 16 i (now (seeds .entry))))) (now (first .entry)) ⌝ }
-{
-    hash_sums::hash_sum(4, salt, e, shape.parties, seeds, sum);
-    byte_offsets(shape, key, inverses, sum, offset, inverse);
-    product_offsets::product_offsets(shape, us, vs, lasts, sum, first, product);
-}
-
 // All offsets of an execution.
 pub fn offsets(
     shape: Shape,
@@ -108,21 +72,10 @@ pub fn offsets(
 {
     let sizes = sets::tape_sizes(shape);
     let size = fields::offset(&sizes, 4);
-    let mut sum = [0u8; 462];
-    offsets_under(
-        shape,
-        salt,
-        e,
-        seeds,
-        key,
-        inverses,
-        us,
-        vs,
-        lasts,
-        first,
-        &mut sum[0..size],
-        offset,
-        inverse,
-        product,
-    );
+    let mut room = [0u8; 462];
+    let added = &mut room[0..size];
+    hash_sums::hash_sum(4, salt, e, shape.parties, seeds, added);
+    let sum: &[u8] = added;
+    byte_offsets(shape, key, inverses, sum, offset, inverse);
+    product_offsets::product_offsets(shape, us, vs, lasts, sum, first, product);
 }

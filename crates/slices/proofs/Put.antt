@@ -110,11 +110,12 @@ put-pair a k d {y} {y′} {z} {z′} e h f room =
     let end : drop k (drop a d) ≡ [] = drop-of-length-le (drop a d) {i = k} (omega (arith, length-drop a d)) in
     rw (e, f, take-at y′ (drop a d) a h, drop-at y′ (drop a d) a h, end) (ap (y′ ++_) (append-nil z′))
 
--- the same where the rest is lent as `&mut d[a..]`
-pub put-two : (a : ℕ) (d : List ℕ) {y y′ z z′ : List ℕ} → y ≡ y′ → length y′ ≡ a → z ≡ z′
-    → putMid a (length (putMid 0 a d y) - a) (putMid 0 a d y) z ≡ y′ ++ z′
-put-two a d {y} {y′} e h f =
-    put-pair a (length (putMid 0 a d y) - a) d e h f (rw e (omega (arith, length-append y′ (drop a d), length-drop a d)))
+-- s is written over the end of a buffer
+pub put-last : (p q s : List ℕ) {a : ℕ} → length p ≡ a → length q ≡ length s → put (p ++ q) a s ≡ p ++ s
+unfolding put
+put-last p q s h e =
+    let none : length q ≤ length s = omega arith in
+    rw (← h, take-at p q (length p) refl, drop-append-add p q (length s), drop-of-length-le q none, append-nil)
 
 -- ---- parts that are lent or read: `d[0..n]`, `s[a..b]`
 

@@ -7,7 +7,7 @@ use native.Mathlib.Nat.{mul-le-mul-right, zero-mul, suc-mul}
 use native.Mathlib.Numerals.{add-one}
 use native.Mathlib.Omega.{arith}
 use lib.ListN.{length, take, drop, length-drop}
-use lib.Seq.{take-all, length-take-le}
+use lib.Seq.{take-all, length-take-le, drop-append-le, take-append-le}
 use borrow.Rule.Slice.PartMut.{putMid}
 use Rattle.slices.specs.Lists.{put, rows, row}
 use Rattle.slices.proofs.Put.{length-put, take-put, put-mid}
@@ -33,6 +33,11 @@ row-long i k s h = rw (row-size i k) (length-take-le k (drop (i * k) s) (omega (
 
 pub row-cut : (i k : ℕ) (s : List ℕ) → take (i * k + k - i * k) (drop (i * k) s) ≡ row k i s
 row-cut i k s = rw (row-size i k)
+
+-- a row of the front
+pub row-front : (k i : ℕ) (x y : List ℕ) → i * k + k ≤ length x → row k i (x ++ y) ≡ row k i x
+row-front k i x y h =
+    ap (take k) (drop-append-le (i * k) x y (omega arith)) ∙ take-append-le k (drop (i * k) x) y (omega (arith, length-drop (i * k) x))
 
 -- ---- a loop that writes a row at each turn: l has m elements, and its first n rows are those of f
 

@@ -1,5 +1,6 @@
 // The steps of a round of AES (FIPS 197, 5.1), for the cipher and for a party of the circuit, which takes them on shares.
 ghost use mathlib.Core.Path.{_≡_};
+ghost use Prim.Native.Nat.{_<_};
 ghost use Rattle.field.specs.Byte.{mul8};
 ghost use Rattle.aes.specs.Aes.{add, shiftRows, mixColumns};
 ghost use Rattle.steps.specs.Steps.{below, doubledPlus};
@@ -8,24 +9,13 @@ ghost use Rattle.steps.specs.Steps.{below, doubledPlus};
 fn shift_rows(s: [u8; 16]) -> [u8; 16]
     ensures { λ r. ⌜ r ≡ shiftRows s ⌝ }
 {
-    [
-        s[0],
-        s[5],
-        s[10],
-        s[15],
-        s[4],
-        s[9],
-        s[14],
-        s[3],
-        s[8],
-        s[13],
-        s[2],
-        s[7],
-        s[12],
-        s[1],
-        s[6],
-        s[11],
-    ]
+    let mut out = [0u8; 16];
+    for i in 0..16 {
+        let r = i % 4;
+        let c = i / 4;
+        out[i] = s[r + 4 * ((c + r) % 4)];
+    }
+    out
 }
 
 // 4.2.1: 02 times a.
@@ -40,24 +30,13 @@ fn double(a: u8) -> u8
 fn below(x: [u8; 16]) -> [u8; 16]
     ensures { λ r. ⌜ r ≡ below x ⌝ }
 {
-    [
-        x[1],
-        x[2],
-        x[3],
-        x[0],
-        x[5],
-        x[6],
-        x[7],
-        x[4],
-        x[9],
-        x[10],
-        x[11],
-        x[8],
-        x[13],
-        x[14],
-        x[15],
-        x[12],
-    ]
+    let mut out = [0u8; 16];
+    for i in 0..16 {
+        let r = i % 4;
+        let c = i / 4;
+        out[i] = x[(r + 1) % 4 + 4 * c];
+    }
+    out
 }
 
 // 02 u + t + v.
@@ -80,16 +59,15 @@ fn mix_columns(s: [u8; 16]) -> [u8; 16]
     doubled_plus(u, t, below(below(u)))
 }
 
-// A round after SubBytes(), with the round key k.
-pub fn round(s: [u8; 16], k: [u8; 16]) -> [u8; 16]
-    ensures { λ r. ⌜ r ≡ add 16 (mixColumns (shiftRows s)) k ⌝ }
+// What round n makes of the S-boxes' outputs s, with the round key k; round 9, the last, mixes no columns.
+pub fn round(n: usize, s: [u8; 16], k: [u8; 16]) -> [u8; 16]
+    requires { ⌜ n < 10 ⌝ }
+    ensures { λ r. ⌜ (n < 9 → r ≡ add 16 (mixColumns (shiftRows s)) k) ⌝ }
+    ensures { λ r. ⌜ (n ≡ 9 → r ≡ add 16 (shiftRows s) k) ⌝ }
 {
-    blocks::add_blocks(mix_columns(shift_rows(s)), k)
-}
-
-// The last round after SubBytes(), which mixes no columns.
-pub fn last_round(s: [u8; 16], k: [u8; 16]) -> [u8; 16]
-    ensures { λ r. ⌜ r ≡ add 16 (shiftRows s) k ⌝ }
-{
-    blocks::add_blocks(shift_rows(s), k)
+    let shifted = shift_rows(s);
+    if n == 9 {
+        return blocks::add_blocks(shifted, k);
+    }
+    blocks::add_blocks(mix_columns(shifted), k)
 }

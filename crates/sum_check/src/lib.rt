@@ -18,15 +18,16 @@ pub fn check_sums(shape: Shape, ciphertext: &[u8], e: u8, rows: &[u8], sums: &mu
     ensures { λ _. ⌜ now (sums .exit) ≡ sumXor (shape .parties) (λ i. row (total (rowSizes shape)) i (now (rows .entry))) ⌝ }
 {
     row_sums::sum_rows(shape.parties, rows, sums);
-    if !equal::equal(&sums[0..16], ciphertext) {
+    let whole: &[u8] = sums;
+    if !equal::equal(&whole[0..16], ciphertext) {
         return Answer::ShareDiffers(shape.parties as u8);
     }
-    let sizes = sets::row_sizes(shape);
+    let sizes: &[usize] = &sets::row_sizes(shape);
     let holds = product::holds(
         shape,
-        fields::field(&sizes, 1, sums),
-        fields::field(&sizes, 2, sums),
-        fields::field(&sizes, 3, sums),
+        fields::field(sizes, 1, whole),
+        fields::field(sizes, 2, whole),
+        fields::field(sizes, 3, whole),
     );
     if !holds {
         return Answer::ProductDiffers(e);

@@ -1,8 +1,10 @@
--- Rows by tables at a point; which points there are. Assumes nothing.
+-- Rows by tables at a point; which points there are, and where a point's rows stand. Assumes nothing.
 use mathlib.Core.Path.{_≡_, _∙_}
 use mathlib.Core.List.{List}
-use Prim.Native.Nat.{ℕ, _*_, _^_, _≤_, _<_}
+use Prim.Native.Nat.{ℕ, _+_, _-_, _*_, _^_, _≤_, _<_}
 use native.Mathlib.Omega.{arith}
+use mir.Syntax.{w64}
+use mir.Val.{Fits}
 use Rattle.slices.specs.Lists.{tab, rows}
 use Rattle.slices.specs.Tab.{tab-cong}
 use Rattle.slices.specs.Bytes.{Bytes}
@@ -14,13 +16,39 @@ use Rattle.forms.specs.Point.{tablesAt, tabledRow, rowAt}
 use Rattle.forms.specs.Values.{tabled-row}
 
 module _ {S : Shape} (v : Valid S) where
-  -- the points 0 to 40 are elements
-  pub point-fits : 40 < 2 ^ (8 * S .wide)
-  point-fits = omega (arith, laws v .enough-points, v .twenty)
+  -- the points 20 to 40 are elements
+  pub point-fits : {k : ℕ} → k < 21 → 20 + k < 2 ^ (8 * S .wide)
+  point-fits h = omega (arith, h, laws v .enough-points, v .twenty)
 
   pub rows-right : (x n : ℕ) {bytes tables out : List ℕ} → Bytes bytes → tables ≡ tablesAt S x → out ≡ tab (tabledRow S bytes tables) n
       → out ≡ tab (λ j. rowAt S bytes j x) n
   rows-right x n b t e = e ∙ tab-cong n (λ j l. tabled-row v x b t j)
+
+-- the indices of turn k fit, and its rows are there
+pub record Turn (k : ℕ) : Type 0 where
+  pub row-start : Fits w64 (k * 10)
+  pub row-bytes : Fits w64 (k * 10 * 8)
+  pub row-end : Fits w64 (k * 10 + 10)
+  pub row-fits : k * 10 + 10 ≤ 210
+  pub point : Fits w64 (20 + k)
+  pub number-bytes : Fits w64 (k * 8)
+  pub next : Fits w64 (k + 1)
+  pub nearer : 21 - (k + 1) < 21 - k
+
+pub turn : {k : ℕ} → k < 21 → Turn k
+turn h = record {
+  row-start = omega (arith, h);
+  row-bytes = omega (arith, h);
+  row-end = omega (arith, h);
+  row-fits = omega (arith, h);
+  point = omega (arith, h);
+  number-bytes = omega (arith, h);
+  next = omega (arith, h);
+  nearer = omega (arith, h);
+}
+
+pub as-long : {n m k : ℕ} → n ≤ k → m ≡ k → n ≤ m
+as-long h e = omega (arith, h, e)
 
 -- all rows are written
 pub stacked : {f : ℕ → List ℕ} {k i n m : ℕ} {l : List ℕ} → Stacking f k i m l → i ≡ n → m ≤ n * k → l ≡ rows f n

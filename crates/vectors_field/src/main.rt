@@ -1,58 +1,44 @@
-// Runs the functions of the wide fields and writes what they answer: products, inverses and lifts of bytes, Lagrange's values at x, and dot
-// products with them.
+// Runs the functions of the wide fields and writes what they answer, a number in hexadecimal a line: products, inverses and lifts of bytes, Lagrange's
+// values at x, and dot products with them. The file stdout is written by vectors/field.py.
 use libc::STDOUT_FILENO;
 ghost use mathlib.Core.Path.{_≡_};
 ghost use Prim.Native.Nat.{_<_, _^_};
 ghost use lib.ListN.{length};
 
-// A word, and a number in hexadecimal.
-fn print(word: &[u8], value: u64) {
-    io::write_all(STDOUT_FILENO, word);
+fn print(value: u64) {
     io::print_hex(STDOUT_FILENO, value, 1);
-}
-
-fn end_line() {
     io::write_all(STDOUT_FILENO, b"\n");
 }
 
 fn product32(a: u64, b: u64) {
-    print(b"32 bits: ", a);
-    print(b" * ", b);
-    print(b" = ", gf::mul(32, 0x8d, a, b));
-    end_line();
+    print(gf::mul(32, 0x8d, a, b));
 }
 
 fn product48(a: u64, b: u64) {
-    print(b"48 bits: ", a);
-    print(b" * ", b);
-    print(b" = ", gf::mul(48, 0x2d, a, b));
-    end_line();
+    print(gf::mul(48, 0x2d, a, b));
 }
 
+// A byte's inverse and its lift.
 fn byte(b: u8) {
-    print(b"byte ", b as u64);
-    print(b": inverse ", inverses::inverse(b) as u64);
-    print(b", lift ", lifts::lift32(b) as u64);
-    end_line();
+    print(inverses::inverse(b) as u64);
+    print(lifts::lift32(b) as u64);
 }
 
 fn print_all(values: &[u64]) {
     for k in 0..values.len() {
-        print(b" ", values[k]);
+        print(values[k]);
     }
-    end_line();
 }
 
+// For 21 points and for 41.
 fn values32(x: u64)
     requires { ⌜ x < 2 ^ 32 ⌝ }
 {
     let mut few = [0u64; 21];
     lagrange_points::values32_21(x, &mut few);
-    print(b"32 bits, 21 points, at ", x);
     print_all(&few);
     let mut many = [0u64; 41];
     lagrange_points::values32_41(x, &mut many);
-    print(b"32 bits, 41 points, at ", x);
     print_all(&many);
 }
 
@@ -61,11 +47,9 @@ fn values48(x: u64)
 {
     let mut few = [0u64; 21];
     lagrange_points::values48_21(x, &mut few);
-    print(b"48 bits, 21 points, at ", x);
     print_all(&few);
     let mut many = [0u64; 41];
     lagrange_points::values48_41(x, &mut many);
-    print(b"48 bits, 41 points, at ", x);
     print_all(&many);
 }
 
@@ -82,9 +66,8 @@ fn print_dots(tables: &[u64], s: &[u8])
     requires { ⌜ (length (now tables) ≡ 672) × (length (now s) ≡ 200) ⌝ }
 {
     for j in 0..10 {
-        print(b" ", dots::dot_tables(tables, s, 20, 10, j));
+        print(dots::dot_tables(tables, s, 20, 10, j));
     }
-    end_line();
 }
 
 // For j = 0 to 9, the values at x of the polynomials through the lifts of bytes j, j + 10, .. j + 190 at the points 0 to 19, and 0 at 20: by
@@ -98,10 +81,10 @@ fn dots(x: u64)
     let mut tables = [0u64; 672];
     tables::tables(32, 0x8d, &p, &coefficients, &mut tables);
     let s = bytes();
-    print(b"lifted bytes, at ", x);
     print_dots(&tables, &s);
 }
 
+// The dot product of 41 values at x and at 89abcdef.
 fn dot(x: u64)
     requires { ⌜ x < 2 ^ 32 ⌝ }
 {
@@ -109,9 +92,7 @@ fn dot(x: u64)
     lagrange_points::values32_41(x, &mut coefficients);
     let mut points = [0u64; 41];
     lagrange_points::values32_41(0x89abcdef, &mut points);
-    print(b"41 values, at ", x);
-    print(b" ", dots::dot(32, 0x8d, &coefficients, &points));
-    end_line();
+    print(dots::dot(32, 0x8d, &coefficients, &points));
 }
 
 fn main() {

@@ -6,12 +6,48 @@ use native.Mathlib.Nat.{sub-zero}
 use native.Mathlib.Omega.{arith}
 use lib.ListN.{length, take, drop, length-append, length-drop}
 use lib.Seq.{take-at, length-take-le}
+use mir.Syntax.{w64}
+use mir.Val.{Fits}
 use Rattle.slices.specs.Lists.{put}
 use Rattle.slices.specs.Layout.{total}
 use Rattle.slices.proofs.Put.{Wrote, wrote-none, wrote-more, wrote-all, front-long}
 use Rattle.banquet.specs.Card.{encoded, encodedLines, cardSizes, cardText}
 use Rattle.banquet.specs.Sets.{baseScheme}
 use Rattle.hex.specs.Hex.{length-encoded}
+
+-- ---- counts, for a message of m bytes
+
+module _ {m : ℕ} (most : m ≤ 32768) where
+  pub start-fits : Fits w64 (32 + m)
+  start-fits = omega (arith, most)
+
+  pub end-fits : Fits w64 (32 + m + 19776)
+  end-fits = omega (arith, most)
+
+  pub twice-fits : Fits w64 (2 * (32 + m + 19776))
+  twice-fits = omega (arith, most)
+
+  pub text-fits : Fits w64 (2 * (32 + m + 19776) + 44)
+  text-fits = omega (arith, most)
+
+  -- the bytes have room for the message, for the signature of s bytes, and for all
+  module _ {n : ℕ} (long : n ≡ 52576) where
+    pub message-room : 32 + m ≤ n
+    message-room = omega (arith, most, long)
+
+    pub signature-room : {s : ℕ} → s ≡ 19776 → 32 + m + s ≤ n
+    signature-room e = omega (arith, most, long, e)
+
+    pub bytes-room : 32 + m + 19776 ≤ n
+    bytes-room = omega (arith, most, long)
+
+  pub text-room : {n : ℕ} → 105196 ≤ n → 2 * (32 + m + 19776) + 44 ≤ n
+  text-room h = omega (arith, most, h)
+
+pub key-room : {k n : ℕ} → k ≡ 32 → n ≡ 52576 → 0 + k ≤ n
+key-room e long = omega (arith, e, long)
+
+-- ---- the text
 
 -- two digits a byte, and an end for each line
 pub length-encodedLines : (sizes s : List ℕ) → length s ≡ total sizes → length (encodedLines sizes s) ≡ 2 * total sizes + length sizes
@@ -48,7 +84,7 @@ module _ {public message signature sizes : List ℕ} (p : Parts public message s
   sizes-total : total sizes ≡ size
   sizes-total = ap total (p .sized) ∙ omega arith
 
-  sizes-many : length sizes ≡ 44
+  pub sizes-many : length sizes ≡ 44
   sizes-many = ap length (p .sized)
 
   -- the three parts, each written where the one before ends
@@ -65,7 +101,7 @@ module _ {public message signature sizes : List ℕ} (p : Parts public message s
   module _ (s d : List ℕ) (e : s ≡ public ++ (message ++ signature)) (room : 105196 ≤ length d) where
     pub card-lent : (length s ≡ total sizes) × (length (take (long - 0) d) ≡ 2 * total sizes + length sizes)
     card-lent =
-        let n : length (take (long - 0) d) ≡ long = front-long long d (omega (arith, p .most)) in
+        let n : length (take (long - 0) d) ≡ long = front-long long d (text-room (p .most) room) in
         (ap length e ∙ whole-long ∙ sym sizes-total, omega (arith, n, sizes-total, sizes-many))
 
     pub card-written : {y : List ℕ} → y ≡ encodedLines sizes s

@@ -1,12 +1,14 @@
 -- `absorb::absorb` meets its contract: at the loop's head the first j bytes of src are absorbed. Assumes nothing.
-use mathlib.Core.Path.{_≡_, refl, ap, _∙_}
+use mathlib.Core.Path.{_≡_, refl, sym, ap, _∙_}
 use mathlib.Core.Logic.{⊎-elim}
-use Prim.Native.Nat.{_+_, _%_, _≤_, _<_, _-_}
+use Prim.Native.Nat.{ℕ, _+_, _%_, _≤_, _<_, _-_}
 use native.Mathlib.Omega.{arith}
 use borrow.Author.Needs.{needs}
 use lib.ListN.{length, take}
 use lib.Seq.{take-all}
+use Rattle.slices.specs.Lists.{part}
 use Rattle.slices.specs.Bytes.{bytes-of}
+use Rattle.slices.specs.Numbers.{number}
 use Rattle.shake.specs.Padding.{rate}
 use Rattle.stream.specs.Stream.{sponge, ready, absorbed}
 use Rattle.stream.proofs.Stream.{ready-full, ready-more, ready-room}
@@ -29,23 +31,32 @@ is-ready c =
 has-room : (c : tie.Joined1 Inv-loop μ-loop) → c .if1 .at < rate
 has-room c = ready-room _ (is-ready c)
 
+-- past the second branch x is the number of the w bytes at j
+is-word : (c : tie.Joined2 Inv-loop μ-loop)
+    → let h = c .before .before .before .before .before in
+    c .if2 .x ≡ number (part (h .loop .j) (c .before .piece .result) (h .before .before .before .args .src .now))
+is-word c =
+    let h = c .before .before .before .before .before in
+    let src = h .before .before .before .args .src .now in
+    ⊎-elim (λ v. v .2 ∙ v .1 .ensures ∙ ap (λ (n : ℕ). number (part (h .loop .j) n src)) (sym (v .0 .taken))) (λ v. v .2 ∙ v .1 .ensures) (c .if2 .came)
+
 loop-holds : tie.Need-loop-holds Inv-loop μ-loop
 unfolding absorbed
 loop-holds c = (omega arith, refl)
 
 loop-again : tie.Need-loop-again Inv-loop μ-loop
 loop-again c =
-    let r = c .before .before .before in
+    let r = c .before .before .before .before in
     let h = r .before .before in
     let a = h .before .before .before .args in
     let src = a .src .now in
-    let w = c .before .piece .result in
+    let w = c .before .before .piece .result in
     let some : 0 < w = omega arith in
     let lane : r .if1 .at % 8 + w ≤ 8 = omega arith in
     let fits : h .loop .j + w ≤ length src = omega arith in (
       fits,
-      absorb-turn (a .s) (r .if1 .lanes) (r .if1 .at) src (h .loop .j) w (c .read .result) (bytes-of (h .before .before .shared-slice-known .given))
-          (h .loop .inv .1) (is-ready r) some lane fits (c .read .ensures),
+      absorb-turn (a .s) (r .if1 .lanes) (r .if1 .at) src (h .loop .j) w (c .before .if2 .x)
+          (bytes-of (h .before .before .shared-slice-known .given)) (h .loop .inv .1) (is-ready r) some lane fits (is-word (c .before)),
     )
 
 returns : tie.Need-returns Inv-loop μ-loop
@@ -65,13 +76,13 @@ absorb-spec =
     (λ c. search needs)
     (λ c κs. tt)
     (λ c κs. search needs)
-    (λ c. search needs)
-    (λ c. omega (arith, has-room (c .before .before .before)))
-    (λ c. search needs)
+    (λ c κs. search needs)
     (λ c. search needs)
     (λ c. search needs)
-    (λ c. omega (arith, has-room (c .before .before .before)))
-    (λ c. omega (arith, has-room (c .before .before .before)))
+    (λ c. omega (arith, has-room (c .before .before .before .before)))
+    (λ c. omega (arith, has-room (c .before .before .before .before)))
+    (λ c. omega (arith, has-room (c .before .before .before .before)))
+    (λ c. omega (arith, has-room (c .before .before .before .before)))
     (λ c. search needs)
     (λ c. search needs)
     loop-again

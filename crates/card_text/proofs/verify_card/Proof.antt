@@ -1,10 +1,9 @@
 -- `card_text::verify_card` meets its contract: the text is read, and its parts are lent to `verify`. Assumes nothing.
-use mathlib.Core.Path.{_≡_, refl, _∙_}
-use Prim.Native.Nat.{ℕ, _≤_, _+_, _-_}
-use native.Mathlib.Omega.{arith}
+use mathlib.Core.Path.{_≡_, refl, sym, ap, _∙_}
+use mathlib.Core.List.{List}
+use Prim.Native.Nat.{ℕ, _-_, zero-le}
 use lib.ListN.{length, replicate, length-replicate}
-use borrow.Author.Needs.{needs}
-use Rattle.card_text.proofs.Checked.{sizes-room, card-refused, endOf, card-fits, card-checked}
+use Rattle.card_text.proofs.Checked.{sizes-room, endOf, Within, card-refused, within, card-checked}
 use Rattle.card_text.proofs.verify_card.Statement.{statement}
 use Rattle.card_text.proofs.verify_card.Tie as tie
 
@@ -26,12 +25,15 @@ module _ (e : tie.After-enum-told) where
   abbrev start : tie.Start
   start = read .before .before .before .before .before .before
 
-  fits : (44 ≤ length (start .args .text .now)) × (19776 + 32 ≤ endOf (start .args .text .now)) × (endOf (start .args .text .now) ≤ 52576)
-  fits =
-      card-fits (start .args .text .now) (read .before .before .before .card-sizes .ensures) (read .read-lines .ensures .0) (e .enum-told .given .1)
+  abbrev bytes : List ℕ
+  bytes = read .read-lines .last .1 .1 .1 .0
 
-  long : length (read .read-lines .last .1 .1 .1 .0) ≡ 52576
+  long : length bytes ≡ 52576
   long = read .read-lines .kept .1 .1 .1 .0 ∙ length-replicate {A = ℕ} 52576 0
+
+  bounds : Within (start .args .text .now) bytes
+  bounds =
+      within (start .args .text .now) (read .before .before .before .card-sizes .ensures) (read .read-lines .ensures .0) (e .enum-told .given .1) long
 
 returns-2 : tie.Need-returns-2
 returns-2 c =
@@ -40,14 +42,15 @@ returns-2 c =
     let k = read e in
     let s = start e in
     card-checked (s .args .text .now) (k .before .before .before .card-sizes .ensures) (k .read-lines .ensures .0) (e .enum-told .given .1)
-    (s .args .work .now) (k .read-lines .last .1 .1 .1 .0) (replicate 52576 0) (endOf (s .args .text .now)) (endOf (s .args .text .now) - 19776)
+    (s .args .work .now) (bytes e) (replicate 52576 0) (endOf (s .args .text .now)) (endOf (s .args .text .now) - 19776)
     refl refl (k .read-lines .ensures .1) (m .verify .ensures .0) (m .verify .ensures .1)
 
 pub verify-card-spec : {M : Type 1} → statement M
 verify-card-spec =
     tie.close
-    (tie.spec (λ c κs. search needs) (λ c. search needs) (λ c. search needs) read-lines-requires (λ c. search needs) returns (λ c. search needs)
-    (λ c. fits (c .before) .0) (λ c. omega (arith, fits (c .before))) (λ c. search needs) (λ c. search needs) (λ c. search needs)
-    (λ c. omega (arith, fits (c .before .before))) (λ c. omega (arith, fits (c .before .before)))
-    (λ c. omega (arith, fits (c .before .before), long (c .before .before))) (λ c. search needs) (λ c. search needs)
-    (λ c. omega (arith, fits (c .before .before .before), long (c .before .before .before))) (λ c κs. search needs) (λ c. search needs) returns-2)
+    (tie.spec (λ c κs. tt) (λ c. sym (ap length (c .before .card-sizes .ensures))) (λ c. sym (length-replicate {A = ℕ} 52576 0)) read-lines-requires
+    (λ c. c .match .keys1) returns (λ c. sym (long (c .before))) (λ c. bounds (c .before) .lines) (λ c. bounds (c .before) .signature)
+    (λ c. zero-le) (λ c. zero-le) (λ c. bounds (c .before) .key-most) (λ c. bounds (c .before .before) .message)
+    (λ c. bounds (c .before .before) .message) (λ c. bounds (c .before .before) .message-most)
+    (λ c. bounds (c .before .before .before) .signature-first) (λ c. bounds (c .before .before .before) .signature-first)
+    (λ c. bounds (c .before .before .before) .most) (λ c κs. tt) (λ c. c .before .before .verify .kept .1 .1 .1 .0) returns-2)

@@ -1,6 +1,6 @@
 -- `check_signature::absorb_executions` meets its contract: after e turns the parts of e executions are absorbed. Assumes nothing.
 use mathlib.Core.Path.{_≡_, sym, _∙_}
-use Prim.Native.Nat.{_+_, _*_, _-_, _≤_}
+use Prim.Native.Nat.{_+_, _*_, _-_, _≤_, zero-le}
 use native.Mathlib.Nat.{le-add-right}
 use native.Mathlib.Omega.{arith}
 use lib.Dec.{lit≤}
@@ -10,6 +10,7 @@ use Rattle.slices.specs.Layout.{total}
 use Rattle.slices.proofs.Rows.{row-cut}
 use Rattle.sets.specs.Bounds.{rowSizes, by-ten}
 use Rattle.verify_answers.specs.Head.{salt-is}
+use Rattle.check_signature.proofs.Counts.{in-word, part-in-word, next-in-word, next-most, all-turns}
 use Rattle.check_signature.proofs.Execution.{first-room, first-most, second-room, third-room, Absorbed, absorbed-none, given, turn}
 use Rattle.check_signature.proofs.absorb_executions.Statement.{statement}
 use Rattle.check_signature.proofs.absorb_executions.Tie as tie
@@ -37,7 +38,7 @@ loop-holds : tie.Need-loop-holds Inv-loop μ-loop
 loop-holds c =
     let s = (c .before .before .before .before .before .before .before .before) in
     let a = s .args in
-    (omega arith, s .pre .2, s .pre .3, absorbed-none (a .shape) (a .public .now) (a .s .now) (a .start .first) (a .start .third))
+    (zero-le, s .pre .2, s .pre .3, absorbed-none (a .shape) (a .public .now) (a .s .now) (a .start .first) (a .start .third))
 
 most : (i : tie.In-loop Inv-loop μ-loop) → i .before .loop .e * (start (i .before) .args .shape .m1 * start (i .before) .args .shape .wide) + start (i .before) .args .shape .m1 * start (i .before) .args .shape .wide ≤ 15360
 most i = first-most (start (i .before) .pre .0) (start (i .before) .pre .1) (i .loop-test .taken)
@@ -66,7 +67,7 @@ absorb-frame-requires c κs =
 add-e : tie.Need-add-e Inv-loop μ-loop
 add-e c =
     let i = (c .before .before .before .before .before .before .before .before .before .before .before .before) in
-    omega (arith, i .loop-test .taken, start (i .before) .pre .0 .valid .brief)
+    next-in-word (i .loop-test .taken) (start (i .before) .pre .0 .valid .brief)
 
 loop-again : tie.Need-loop-again Inv-loop μ-loop
 loop-again c =
@@ -76,7 +77,7 @@ loop-again c =
     let a = start k .args in
     let p = start k .pre in
     let v = k .loop .inv in (
-      omega arith,
+      next-most (i .loop-test .taken),
       x .absorb-frame .kept .1 .1 .1 .1 .1 .1 .1 .1 .1 .0 ∙ v .1,
       x .absorb-frame .kept .1 .1 .1 .1 .1 .1 .1 .1 .1 .1 .0 ∙ v .2,
       turn (p .0) (p .1) (i .loop-test .taken) (salt-is (a .shape) (a .s .now)) ((x .before .before .before .before .before .before) .hidden .ensures)
@@ -87,13 +88,13 @@ loop-again c =
 returns : tie.Need-returns Inv-loop μ-loop
 returns c =
     let k = c .before in
-    let e : k .loop .e ≡ start k .args .shape .executions = omega arith in
+    let e : k .loop .e ≡ start k .args .shape .executions = all-turns (k .loop .inv .0) (c .loop-test .left) in
     (rw e at (k .loop .inv .3 .first), rw e at (k .loop .inv .3 .third))
 
 pub absorb-executions-spec : {M : Type 1} → statement M
 absorb-executions-spec =
     tie.close
-    (tie.spec Inv-loop μ-loop mul-n loop-holds (λ c. omega (arith, most c)) (λ c. omega (arith, most c)) (λ c. lit≤ tt) (λ c. lit≤ tt)
+    (tie.spec Inv-loop μ-loop mul-n loop-holds (λ c. part-in-word _ (most c) (lit≤ tt)) (λ c. in-word (most c) (lit≤ tt)) (λ c. lit≤ tt) (λ c. lit≤ tt)
     (λ c. salt-room (start (c .before))) (λ c. search needs) hidden-requires (λ c. le-add-right _ _) (λ c. le-add-right _ _) part-absorb-frame-end-2 second-requires
     (λ c κs. start (c .before .before .before .before .before) .pre .0 .valid) absorb-frame-requires add-e (λ c. search needs) loop-again
     (λ c. c .before .loop .inv .1 ∙ sym (start (c .before) .pre .2)) (λ c. c .before .loop .inv .2 ∙ sym (start (c .before) .pre .3)) returns)

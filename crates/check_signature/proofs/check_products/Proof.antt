@@ -1,19 +1,22 @@
 -- `check_signature::check_products` meets its contract: number 15, then the hashes; only the front of the work slice is written. Assumes nothing.
 use mathlib.Core.Path.{_≡_, refl, sym, ap, _∙_}
 use mathlib.Core.List.{List}
-use Prim.Native.Nat.{ℕ, _*_, _≤_}
-use native.Mathlib.Omega.{arith}
-use lib.ListN.{replicate}
+use Prim.Native.Nat.{ℕ, _*_, _≤_, zero-le}
+use native.Mathlib.Nat.{le-trans, mul-le-mul-right}
+use lib.Dec.{lit≤}
+use lib.ListN.{length, replicate}
 use borrow.Author.Needs.{needs}
 use Rattle.slices.specs.Layout.{total}
 use Rattle.slices.proofs.Put.{front-long}
 use Rattle.banquet.specs.declared.Shape.{Shape}
+use Rattle.banquet.specs.Shape.{signatureLength}
 use Rattle.sets.specs.Valid.{Valid}
 use Rattle.sets.specs.Bounds.{rowSizes, rows-most}
 use Rattle.scratch.proofs.Laws.{scratch-front}
 use Rattle.banquet.specs.Sets.{aesScheme}
 use Rattle.banquet.specs.Signature.{headPart, frameOf}
 use Rattle.verify_answers.specs.Answers.{product-refused, products-hold}
+use Rattle.check_signature.proofs.Counts.{in-word}
 use Rattle.check_signature.proofs.Hashes.{products-right}
 use Rattle.check_signature.proofs.check_products.Statement.{statement}
 use Rattle.check_signature.proofs.check_products.Tie as tie
@@ -29,7 +32,10 @@ returns c =
       record { long = refl; rest = refl },
     )
 
--- ---- room for the rows
+-- ---- room for the commitments and the rows
+
+commitments-most : (s : tie.Start) → s .args .shape .parties * 32 ≤ 4096
+commitments-most s = mul-le-mul-right 32 (s .pre .0 .valid .few)
 
 fit : {S : Shape} {len : ℕ} → Valid S → len ≡ total (rowSizes S) → S .parties * len ≤ 18176
 fit v e = rw e (rows-most v)
@@ -45,12 +51,11 @@ check-hashes-requires : tie.Need-check-hashes-requires
 check-hashes-requires c κs =
     let r = (c .before .before .before .before) in
     let s = start r in
-    let zeros : List ℕ = replicate 4096 0 in
-    let few : s .args .shape .parties ≤ 128 = s .pre .0 .valid .few in (
+    let zeros : List ℕ = replicate 4096 0 in (
       s .pre .0,
       (c .before .before .before .before .before .before) .second-hash .ensures,
-      front-long (s .args .shape .parties * 32) zeros (omega (arith, few)),
-      front-long (s .args .shape .parties * r .row-length .result) (s .args .work .now) (omega (arith, most r, s .pre .1))
+      front-long (s .args .shape .parties * 32) zeros (commitments-most s),
+      front-long (s .args .shape .parties * r .row-length .result) (s .args .work .now) (le-trans (le-trans (most r) (lit≤ tt)) (s .pre .1))
           ∙ ap (λ n. s .args .shape .parties * n) (r .row-length .ensures),
     )
 
@@ -66,12 +71,19 @@ returns-2 c =
           (products-hold (a .shape) (a .public .now) (a .message .now) (headPart 𝓢 0 s) (headPart 𝓢 1 s) (headPart 𝓢 2 s) (frameOf 𝓢 s)
           ((l .before .before) .first-product .ensures) (l .if1 .left)),
       scratch-front (a .shape .parties * r .row-length .result) (a .work .now) (x .check-hashes .last .1 .1 .1 .1 .1 .1 .0)
-          (omega (arith, most r)) (start r .pre .1) (x .check-hashes .kept .1 .1 .1 .1 .1 .1 .0),
+          (le-trans (most r) (lit≤ tt)) (start r .pre .1) (x .check-hashes .kept .1 .1 .1 .1 .1 .1 .0),
     )
+
+file-right : (s : tie.Start) → Valid (s .args .shape) × (length (s .args .s .now) ≡ signatureLength (s .args .shape))
+file-right s = (s .pre .0 .valid, s .pre .0 .file-sized .size)
 
 pub check-products-spec : {M : Type 1} → statement M
 check-products-spec =
     tie.close
-    (tie.spec (λ c κs. search needs) (λ c. search needs) returns (λ c κs. search needs) (λ c. search needs) (λ c κs. search needs)
-    (λ c. omega (arith, most (c .before))) (λ c. search needs) (λ c. search needs) (λ c. search needs) (λ c. search needs) (λ c. search needs)
-    (λ c. search needs) (λ c. omega (arith, most (c .before .before .before), start (c .before .before .before) .pre .1)) check-hashes-requires (λ c. search needs) returns-2)
+    (tie.spec (λ c κs. file-right (c .before .before .before .before)) (λ c. search needs) returns
+    (λ c κs. file-right (c .before .before .before .before .before .before .before))
+    (λ c. in-word (commitments-most (c .before .before .before .before .before .before .before .before .before)) (lit≤ tt))
+    (λ c κs. (c .before .before .before .before .before .before .before .before .before) .pre .0 .valid) (λ c. in-word (most (c .before)) (lit≤ tt))
+    (λ c. search needs) (λ c. zero-le) (λ c. zero-le) (λ c. commitments-most (start (c .before .before))) (λ c. zero-le) (λ c. zero-le)
+    (λ c. le-trans (le-trans (most (c .before .before .before)) (lit≤ tt)) (start (c .before .before .before) .pre .1)) check-hashes-requires
+    (λ c. search needs) returns-2)

@@ -1,23 +1,20 @@
 -- `check_signature::recomputed` meets its contract: there is room for the challenges, and they are those of h1, h2 and h3. Assumes nothing.
 use mathlib.Core.Path.{refl, ap, _∙_}
 use mathlib.Core.List.{_∷_}
-use Prim.Native.Nat.{ℕ, _*_, _≤_}
+use Prim.Native.Nat.{ℕ, _*_, _≤_, zero-le}
 use native.Mathlib.Nat.{mul-le-mul}
 use native.Mathlib.Omega.{arith}
 use lib.Dec.{lit≤}
 use lib.ListN.{length}
-use borrow.Author.Needs.{needs}
 use Rattle.slices.proofs.Put.{cut-long}
 use Rattle.banquet.specs.Shape.{firstChallengeLength}
 use Rattle.sets.specs.Bounds.{by-ten}
 use Rattle.verify_answers.specs.Head.{h1-is, h3-is}
 use Rattle.second_hash.proofs.Laws.{sized-second}
+use Rattle.check_signature.proofs.Counts.{in-word}
 use Rattle.check_signature.proofs.Execution.{drawn-front, array-kept}
 use Rattle.check_signature.proofs.recomputed.Statement.{statement}
 use Rattle.check_signature.proofs.recomputed.Tie as tie
-
-zero-le : (n : ℕ) → 0 ≤ n
-zero-le n = omega arith
 
 module _ (s : tie.Start) where
   abbrev f : ℕ
@@ -79,8 +76,9 @@ absorb-executions-requires c κs =
 pub recomputed-spec : {M : Type 1} → statement M
 recomputed-spec =
     tie.close
-    (tie.spec (λ c. omega (arith, ten (c .before .before .before .before .before .before))) (λ c. omega (arith, firsts-most (c .before .before .before .before .before .before))) (λ c. omega (arith, seconds-most (c .before .before .before .before .before .before .before))) (λ c. omega (arith, thirds-most (c .before .before .before .before .before .before .before)))
-    (λ c. lit≤ tt) (λ c. lit≤ tt) (λ c. h1-room (c .before .before .before .before .before .before .before)) (λ c. zero-le _) (λ c. zero-le _) (λ c. firsts-most (start c))
-    (λ c κs. cut-long 32 64 (start (c .before) .args .s .now) refl (h1-room (start (c .before)))) (λ c. zero-le _) (λ c. zero-le _) (λ c. seconds-most (start (c .before .before .before))) draw-requires-2 (λ c. lit≤ tt)
-    (λ c. lit≤ tt) (λ c. h3-room (start (c .before .before .before .before .before .before))) (λ c. zero-le _) (λ c. zero-le _) (λ c. thirds-most (start (c .before .before .before .before .before .before .before))) (λ c κs. cut-long 64 96 (start (c .before .before .before .before .before .before .before .before) .args .s .now) refl (h3-room (start (c .before .before .before .before .before .before .before .before)))) firsts-kept
-    seconds-kept thirds-kept absorb-executions-requires (λ c. search needs) (λ c. search needs) (λ c. search needs))
+    (tie.spec (λ c. in-word (ten (c .before .before .before .before .before .before)) (lit≤ tt)) (λ c. in-word (firsts-most (c .before .before .before .before .before .before)) (lit≤ tt)) (λ c. in-word (seconds-most (c .before .before .before .before .before .before .before)) (lit≤ tt)) (λ c. in-word (thirds-most (c .before .before .before .before .before .before .before)) (lit≤ tt))
+    (λ c. lit≤ tt) (λ c. lit≤ tt) (λ c. h1-room (c .before .before .before .before .before .before .before)) (λ c. zero-le) (λ c. zero-le) (λ c. firsts-most (start c))
+    (λ c κs. cut-long 32 64 (start (c .before) .args .s .now) refl (h1-room (start (c .before)))) (λ c. zero-le) (λ c. zero-le) (λ c. seconds-most (start (c .before .before .before))) draw-requires-2 (λ c. lit≤ tt)
+    (λ c. lit≤ tt) (λ c. h3-room (start (c .before .before .before .before .before .before))) (λ c. zero-le) (λ c. zero-le) (λ c. thirds-most (start (c .before .before .before .before .before .before .before))) (λ c κs. cut-long 64 96 (start (c .before .before .before .before .before .before .before .before) .args .s .now) refl (h3-room (start (c .before .before .before .before .before .before .before .before)))) firsts-kept
+    seconds-kept thirds-kept absorb-executions-requires (λ c. (c .before .before .before .before) .absorb-executions .kept .1 .1 .1 .1 .1 .1 .1 .0)
+    (λ c. (c .before .before .before .before) .absorb-executions .kept .1 .1 .1 .1 .1 .1 .1 .1 .0) (λ c. (c .before .before .before .before) .absorb-executions .ensures))

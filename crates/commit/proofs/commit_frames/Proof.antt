@@ -1,9 +1,8 @@
 -- `commit::commit_frames` meets its contract: after e turns e frames have their offsets, and e parts are absorbed. Assumes nothing.
 use mathlib.Core.Path.{_≡_, refl, sym, ap, _∙_}
-use Prim.Native.Nat.{ℕ, _+_, _-_, _*_, _≤_}
+use Prim.Native.Nat.{ℕ, _+_, _-_, _*_, _<_, _≤_}
 use native.Mathlib.Omega.{arith}
 use lib.ListN.{length, take, drop}
-use borrow.Author.Needs.{needs}
 use Rattle.slices.specs.Lists.{rows, row, put}
 use Rattle.slices.specs.Layout.{total}
 use Rattle.slices.proofs.Rows.{row-fits, row-long, row-cut}
@@ -46,6 +45,9 @@ module _ (c : tie.In-loop Inv-loop μ-loop) where
 
   abbrev s : tie.Start Inv-loop μ-loop
   s = start k
+
+  few : k .loop .e < 256
+  few = omega (arith, c .loop-test .taken, s .pre .0 .brief)
 
   -- row e of the roots and of the frames is there
   root-room : k .loop .e * 16 + 16 ≤ length (s .args .roots .now)
@@ -108,10 +110,26 @@ returns c =
 pub commit-frames-spec : {M : Type 1} → statement M
 commit-frames-spec =
     tie.close
-    (tie.spec Inv-loop μ-loop (λ c. search needs) (λ c. search needs) (λ c. search needs) (λ c. search needs) loop-holds
-    (λ c. omega (arith, root-room c)) (λ c. omega (arith, root-room c)) (λ c. omega (arith, frame-most c)) (λ c. omega (arith, frame-most c))
-    (λ c. omega (arith, c .loop-test .taken, start (c .before) .pre .0 .brief)) (λ c. search needs) (λ c. search needs) root-room (λ c. search needs)
-    (λ c. search needs) (λ c. frame-room (c .before)) commit-frame-requires
-    (λ c. search needs) (λ c. search needs) loop-again
+    (tie.spec Inv-loop μ-loop
+    (λ c. omega (arith, c .before .before .before .before .before .before .before .pre .0 .shallow))
+    (λ c. omega (arith, c .before .before .before .before .before .before .before .pre .0 .shallow))
+    (λ c. omega (arith, c .before .before .before .before .before .before .before .before .pre .0 .wide-most))
+    (λ c. let v = c .before .before .before .before .before .before .before .before .pre .0 in omega (arith, v .shallow, v .wide-most))
+    loop-holds
+    (λ c. omega (arith, few c))
+    (λ c. omega (arith, few c))
+    (λ c. omega (arith, frame-most c))
+    (λ c. omega (arith, frame-most c))
+    (λ c. omega (arith, few c))
+    (λ c. omega arith)
+    (λ c. omega arith)
+    root-room
+    (λ c. omega arith)
+    (λ c. omega arith)
+    (λ c. frame-room (c .before))
+    commit-frame-requires
+    (λ c. omega (arith, few (c .before .before .before .before .before .before .before .before)))
+    (λ c. omega (arith, (c .before .before .before .before .before .before .before .before) .loop-test .taken))
+    loop-again
     (λ c. let k = c .before in k .loop .inv .2 .done .long ∙ sym (whole (start k)))
     (λ c. let k = c .before in k .loop .inv .1 ∙ sym (start k .pre .6)) returns)

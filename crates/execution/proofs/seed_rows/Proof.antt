@@ -1,19 +1,34 @@
 -- `execution::seed_rows` meets its contract: after i turns the first i rows are written; the tape is scratch. Assumes nothing.
 use mathlib.Core.Path.{_≡_, sym, ap, _∙_}
-use Prim.Native.Nat.{ℕ, _<_, _≤_, _+_, _-_, _*_}
+use Prim.Native.Nat.{ℕ, _<_, _≤_, _+_, _-_, _*_, zero-le}
+use native.Mathlib.Nat.{le-trans}
 use native.Mathlib.Omega.{arith}
 use lib.ListN.{length}
-use borrow.Author.Needs.{needs}
 use Rattle.slices.specs.Lists.{row}
 use Rattle.slices.specs.Layout.{total}
 use Rattle.slices.proofs.Rows.{Stacking, stacking-none, stacking-lent, stacking-all, row-fits, row-long}
 use Rattle.banquet.specs.Shape.{tapeSizes}
 use Rattle.banquet.specs.Sets.{aesScheme}
 use Rattle.banquet.specs.Hash.{tape as tapeOf}
-use Rattle.sets.specs.Bounds.{tape-most}
 use Rattle.forms.specs.Party.{committed, workedRow}
 use Rattle.party_shares.proofs.Laws.{front-long}
-use Rattle.execution.proofs.Laws.{offset-fits, size-is, rows-few, drawn-row}
+use Rattle.execution.proofs.Laws.{
+  from-start,
+  up-to,
+  in-word,
+  next-turn,
+  turns-less,
+  seed-word,
+  seed-end-word,
+  in-byte,
+  next-word,
+  party-byte,
+  offset-fits,
+  size-is,
+  tape-room,
+  rows-few,
+  drawn-row,
+}
 use Rattle.execution.proofs.seed_rows.Statement.{statement}
 use Rattle.execution.proofs.seed_rows.Tie as tie
 
@@ -52,7 +67,7 @@ drawn : (k : tie.After-row-length Inv-loop μ-loop) → k .before .offset .resul
 drawn k = size-is (entry k .pre .0 .valid) (k .before .before .before .tape-sizes .ensures) (k .before .offset .ensures)
 
 small : (k : tie.After-row-length Inv-loop μ-loop) → k .before .offset .result ≤ 462
-small k = omega (arith, drawn k, tape-most (entry k .pre .0 .valid))
+small k = tape-room (entry k .pre .0 .valid) (drawn k)
 
 offset-requires : tie.Need-offset-requires Inv-loop μ-loop
 offset-requires c κs =
@@ -60,18 +75,22 @@ offset-requires c κs =
     offset-fits (s .pre .0 .valid) (c .before .tape-sizes .ensures)
 
 loop-holds : tie.Need-loop-holds Inv-loop μ-loop
-loop-holds c = let k = c .before in (search needs, front-long _ (drawn k) (small k), stacking-none _ _ (whole k))
+loop-holds c = let k = c .before in (zero-le, front-long _ (drawn k) (small k), stacking-none _ _ (whole k))
 
 -- a party's number is a byte
 byte : (c : tie.In-loop Inv-loop μ-loop) → c .before .loop .i < 256
-byte c = omega (arith, c .loop-test .taken, start (c .before) .pre .0 .valid .few)
+byte c = party-byte (start (c .before) .pre .0 .valid) (c .loop-test .taken)
+
+-- its seed is there
+seed-fits : (c : tie.In-loop Inv-loop μ-loop) → c .before .loop .i * 16 + 16 ≤ length (start (c .before) .args .seeds .now)
+seed-fits c = le-trans (row-fits 16 (c .loop-test .taken)) (start (c .before) .pre .2)
 
 hash-requires : tie.Need-hash-requires Inv-loop μ-loop
 hash-requires c κs =
     let t = c .before .before in
     let k = t .before in
     let s = start k in
-    (s .pre .1, row-long (k .loop .i) 16 (s .args .seeds .now) (omega (arith, row-fits 16 (t .loop-test .taken), s .pre .2)))
+    (s .pre .1, row-long (k .loop .i) 16 (s .args .seeds .now) (seed-fits t))
 
 -- the tape keeps its length
 long : (h : tie.After-hash Inv-loop μ-loop)
@@ -85,7 +104,7 @@ party-row-requires c κs =
     let k = t .before in (
       start k .pre .0,
       long h,
-      row-long (k .loop .i) (len k) (k .loop .out) (omega (arith, fits t, k .loop .inv .2 .long)) ∙ k .before .before .row-length .ensures,
+      row-long (k .loop .i) (len k) (k .loop .out) (up-to (fits t) (k .loop .inv .2 .long)) ∙ k .before .before .row-length .ensures,
     )
 
 loop-again : tie.Need-loop-again Inv-loop μ-loop
@@ -100,7 +119,7 @@ loop-again c =
     let row = drawn-row (s .pre .0 .valid) (workedRow (a .shape) (committed (a .front .now) (a .key .now) (a .inverse .now)) (a .product .now)
     (a .first .now) (a .far .now) (a .given) (a .tables .now) (a .last) i) (a .salt .now) (a .e) i (a .seeds .now) (r .party-row .ensures)
     (h .hash .ensures) (k .loop .inv .1) in
-    (omega arith, long h, stacking-lent (k .loop .inv .2) (fits t) row (r .party-row .kept .1 .1 .1 .1 .1 .1 .1 .1 .1 .1 .1 .1 .0))
+    (next-turn (t .loop-test .taken), long h, stacking-lent (k .loop .inv .2) (fits t) row (r .party-row .kept .1 .1 .1 .1 .1 .1 .1 .1 .1 .1 .1 .1 .0))
 
 same-length : tie.Need-same-length Inv-loop μ-loop
 same-length c = let k = c .before .before in k .loop .inv .2 .long ∙ sym (whole (k .before .before))
@@ -112,22 +131,28 @@ returns c =
     stacking-all (rw e at (k .loop .inv .2)) (omega arith)
 
 row-start : tie.Need-mul-a Inv-loop μ-loop
-row-start c = let t = c .before .before .before .before .before in omega (arith, fits t, bound (t .before))
+row-start c =
+    let t = c .before .before .before .before .before in
+    let k = t .before in in-word (le-trans (from-start (k .loop .i * len k) (len k)) (fits t)) (bound k)
 
 row-end : tie.Need-add-b Inv-loop μ-loop
-row-end c = let t = c .before .before .before .before .before in omega (arith, fits t, bound (t .before))
+row-end c = let t = c .before .before .before .before .before in in-word (fits t) (bound (t .before))
 
 part-end : tie.Need-part-party-row-end Inv-loop μ-loop
-part-end c = let t = c .before .before .before .before .before .before in omega (arith, fits t, t .before .loop .inv .2 .long)
+part-end c = let t = c .before .before .before .before .before .before in up-to (fits t) (t .before .loop .inv .2 .long)
 
-add-i : tie.Need-add-i Inv-loop μ-loop
-add-i c = let t = c .before .before .before .before .before .before .before .before .before .before in omega (arith, byte t)
+-- a part begins before it ends
+part-start : tie.Need-part-party-row-start Inv-loop μ-loop
+part-start c = let k = c .before .before .before .before .before .before .before in from-start (k .loop .i * len k) (len k)
 
 pub seed-rows-spec : {M : Type 1} → statement M
 seed-rows-spec =
     tie.close
-    (tie.spec Inv-loop μ-loop (λ c κs. search needs) (λ c. search needs) offset-requires (λ c κs. search needs)
-    (λ c. search needs) (λ c. search needs) (λ c. small c) loop-holds
-    (λ c. omega (arith, byte c)) (λ c. omega (arith, byte c)) (λ c. search needs) (λ c. search needs) (λ c. search needs) (λ c. search needs) hash-requires
-    row-start row-end (λ c. search needs) (λ c. search needs) part-end party-row-requires add-i
-    (λ c. search needs) loop-again same-length returns)
+    (tie.spec Inv-loop μ-loop (λ c κs. c .before .before .before .before .before .before .before .before .before .before .pre .0 .valid)
+    (λ c. sym (ap length (c .before .tape-sizes .ensures))) offset-requires
+    (λ c κs. c .before .before .before .before .before .before .before .before .before .before .before .before .before .pre .0 .valid)
+    (λ c. zero-le) (λ c. zero-le) small loop-holds
+    (λ c. seed-word (byte c)) (λ c. seed-end-word (byte c)) (λ c. in-byte (byte c)) (λ c. from-start (c .before .loop .i * 16) 16)
+    (λ c. from-start (c .before .loop .i * 16) 16) seed-fits hash-requires row-start row-end part-start part-start part-end party-row-requires
+    (λ c. next-word (byte (c .before .before .before .before .before .before .before .before .before .before)))
+    (λ c. turns-less (c .before .before .before .before .before .before .before .before .before .before .loop-test .taken)) loop-again same-length returns)

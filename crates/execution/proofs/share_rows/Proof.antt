@@ -1,12 +1,13 @@
 -- `execution::share_rows` meets its contract: the numbers that all parties have in common are right. Assumes nothing.
-use mathlib.Core.Path.{refl, ap}
-use native.Mathlib.Omega.{arith}
+use mathlib.Core.Path.{refl, sym, ap}
+use Prim.Native.Nat.{zero-le}
 use lib.ListN.{length, take, drop}
+use lib.Dec.{lit≤}
 use borrow.Author.Needs.{needs}
 use Rattle.slices.specs.Bytes.{bytes-of}
-use Rattle.sets.specs.Bounds.{by-ten}
 use Rattle.sets.specs.Laws.{wide-field}
 use Rattle.tapes.proofs.Laws.{load-fits}
+use Rattle.execution.proofs.Laws.{up-to, bits-word, bits-half, first-room}
 use Rattle.execution.proofs.Right.{right, rows-right}
 use Rattle.execution.proofs.share_rows.Statement.{statement}
 use Rattle.execution.proofs.share_rows.Tie as tie
@@ -14,7 +15,7 @@ use Rattle.execution.proofs.share_rows.Tie as tie
 load-requires : tie.Need-load-requires
 load-requires c κs =
     let s = c .before .before .before .before .before .before .before .before .before .before .before .before .before .before .before .before in
-    load-fits (s .pre .0) 10 refl (omega (arith, s .pre .6, by-ten (s .pre .0) (s .args .shape .wide)))
+    load-fits (s .pre .0) 10 refl (first-room (s .pre .0) (s .pre .6))
 
 mul-requires : tie.Need-mul-requires
 mul-requires c κs =
@@ -67,7 +68,14 @@ returns c =
 pub share-rows-spec : {M : Type 1} → statement M
 share-rows-spec =
     tie.close
-    (tie.spec (λ c. search needs) (λ c. search needs) (λ c. search needs) (λ c κs. search needs) (λ c. search needs) (λ c κs. search needs)
-    (λ c. search needs) load-requires (λ c. search needs) (λ c. search needs) (λ c. search needs) (λ c. search needs) (λ c κs. search needs)
-    (λ c κs. search needs) mul-requires (λ c. search needs) (λ c. search needs) (λ c. search needs) (λ c. search needs)
-    seed-rows-requires (λ c. search needs) returns)
+    (tie.spec (λ c. bits-word (c .before .before .before .before .before .before .before .before .before .pre .0))
+    (λ c. bits-half (c .before .before .before .before .before .before .before .before .before .pre .0)) (λ c. refl)
+    (λ c κs. let p = c .before .before .before .before .before .before .before .before .before .before .pre in (p .0, p .8, refl)) (λ c. refl)
+    (λ c κs. let p = c .before .before .before .before .before .before .before .before .before .before .before .before .before .pre in (p .0, p .8, refl))
+    (λ c. refl) load-requires (λ c. sym (ap length (c .before .before .load .ensures))) (λ c. zero-le) (λ c. zero-le)
+    (λ c. up-to (lit≤ tt) (ap length (c .before .before .before .before .before .before .far-values .ensures))) (λ c κs. search needs)
+    (λ c κs. search needs) mul-requires
+    (λ c. lit≤ tt) (λ c. lit≤ tt)
+    (λ c. up-to (lit≤ tt) (ap length (c .before .before .before .before .before .before .before .before .before .before .before .far-values .ensures)))
+    (λ c. sym (c .before .before .before .before .before .before .before .before .before .before .before .before .before .before .before .before .tables2 .kept .1 .1 .0)) seed-rows-requires
+    (λ c. c .before .before .seed-rows .kept .1 .1 .1 .1 .1 .1 .1 .1 .1 .1 .1 .1 .1 .0) returns)

@@ -1,58 +1,36 @@
 -- `frame_hashes::absorb_frame` meets its contract: what the rows give is what the hashes bind. Assumes nothing.
 use mathlib.Core.Path.{_≡_, ap, _∙_}
-use mathlib.Core.List.{List}
-use Prim.Native.Nat.{ℕ, _*_, _≤_}
-use native.Mathlib.Omega.{arith}
-use lib.ListN.{length, replicate}
-use borrow.Author.Needs.{needs}
+use Prim.Native.Nat.{_*_}
+use lib.ListN.{length}
 use Rattle.slices.specs.Layout.{total}
-use Rattle.slices.proofs.Put.{front-long}
 use Rattle.stream.specs.Stream.{absorbed}
-use Rattle.sets.specs.Bounds.{rowSizes, leaves-most}
+use Rattle.sets.specs.Bounds.{rowSizes}
 use Rattle.frame_hashes.specs.Frame.{seedShown}
 use Rattle.frame_hashes.proofs.Bound.{first-bound, third-bound}
 use Rattle.frame_hashes.proofs.absorb_frame.Statement.{statement}
 use Rattle.frame_hashes.proofs.absorb_frame.Tie as tie
 
-abbrev start : tie.After-leaf-bytes → tie.Start
-start l = (l .before .before .before .before .before .before .before)
-
-most : (l : tie.After-leaf-bytes) → l .leaf-bytes .result ≤ 2048
-most l = omega (arith, leaves-most (start l .pre .0 .valid), l .leaf-bytes .ensures)
-
-frame-rows-requires : tie.Need-frame-rows-requires
-frame-rows-requires c κs =
-    let l = (c .before .before .before) in
-    let s = start l in
-    let zeros : List ℕ = replicate 2048 0 in
-    let room : l .leaf-bytes .result ≤ length zeros = omega (arith, most l) in
-    (s .pre .0, front-long (l .leaf-bytes .result) zeros room ∙ l .leaf-bytes .ensures, s .pre .1, s .pre .2)
-
 module _ (f : tie.After-frame-rows) where
   abbrev s : tie.Start
-  s = start (f .before .before .before .before)
+  s = (f .before .before .before .before .before .before .before .before .before)
 
-  rows-long : length (f .frame-rows .last .1 .1 .1 .1 .1 .1 .1 .1 .1 .1 .0) ≡ s .args .shape .parties * total (rowSizes (s .args .shape))
-  rows-long = f .frame-rows .kept .1 .1 .1 .1 .1 .1 .1 .1 .1 .1 .0 ∙ s .pre .2
+  rows-long : length (f .frame-rows .last .1 .1 .1 .1 .1 .1 .1 .1 .1 .0) ≡ s .args .shape .parties * total (rowSizes (s .args .shape))
+  rows-long = f .frame-rows .kept .1 .1 .1 .1 .1 .1 .1 .1 .1 .0 ∙ s .pre .2
 
 absorb-first-requires : tie.Need-absorb-first-requires
-absorb-first-requires c κs =
-    let f = (c .before .before .before .before .before .before .before) in
-    (s f .pre .0 .valid, s f .pre .0 .frame-sized .size, rows-long f)
+absorb-first-requires c κs = let f = (c .before .before .before .before .before .before) in (s f .pre .0 .valid, s f .pre .0 .frame-sized .size, rows-long f)
 
 absorb-third-requires : tie.Need-absorb-third-requires
-absorb-third-requires c κs =
-    let f = (c .before .before .before .before .before .before .before .before .before) in
-    (s f .pre .0 .valid, s f .pre .0 .frame-sized .size, rows-long f)
+absorb-third-requires c κs = let f = (c .before .before .before .before .before .before .before) in (s f .pre .0 .valid, s f .pre .0 .frame-sized .size, rows-long f)
 
 returns : tie.Need-returns
 returns c =
-    let f = (c .before .before .before .before .before .before .before .before .before .before) in
+    let f = (c .before .before .before .before .before .before .before .before) in
     let a = s f .args in
     let g = s f .pre .0 in
     let seed = seedShown (a .shape) (a .salt .now) (a .e) (a .hidden) (a .frame .now) in
     let made = f .frame-rows .ensures in (
-      (c .before .before) .absorb-first .ensures ∙ ap (absorbed (a .hashes .first)) (first-bound g (a .e) seed (made .0) (made .1)),
+      (c .before) .absorb-first .ensures ∙ ap (absorbed (a .hashes .first)) (first-bound g (a .e) seed (made .0) (made .1)),
       (
         c .absorb-third .ensures ∙ ap (absorbed (a .hashes .third)) (third-bound g (a .e) seed (made .0) (made .1)),
         (made .0, made .1),
@@ -62,5 +40,5 @@ returns c =
 pub absorb-frame-spec : {M : Type 1} → statement M
 absorb-frame-spec =
     tie.close
-    (tie.spec (λ c κs. search needs) (λ c. search needs) (λ c. search needs) (λ c. omega (arith, most c)) frame-rows-requires
-    absorb-first-requires absorb-third-requires (λ c. search needs) (λ c. search needs) returns)
+    (tie.spec (λ c κs. (c .before .before .before .before .before .before .before .before) .pre) absorb-first-requires absorb-third-requires (λ c. (c .before .before .before .before .before .before .before .before) .frame-rows .kept .1 .1 .1 .1 .1 .1 .1 .1 .0)
+    (λ c. (c .before .before .before .before .before .before .before .before) .frame-rows .kept .1 .1 .1 .1 .1 .1 .1 .1 .1 .0) returns)

@@ -1,62 +1,43 @@
--- `frame_hashes::absorb_third` meets its contract: the four pieces are absorbed one after the other. Assumes nothing.
-use mathlib.Core.Path.{_≡_, ap, _∙_}
-use Prim.Native.Nat.{ℕ, _*_}
+-- `frame_hashes::absorb_third` meets its contract: the two pieces are absorbed one after the other. Assumes nothing.
+use mathlib.Core.Path.{sym, ap, _∙_}
+use Prim.Native.Nat.{ℕ, _-_, _*_, _≤_}
+use native.Mathlib.Nat.{le-refl}
 use native.Mathlib.Omega.{arith}
-use borrow.Author.Needs.{needs}
-use Rattle.slices.specs.Layout.{field}
+use lib.ListN.{length}
 use Rattle.absorb_rows.proofs.Laws.{more}
 use Rattle.stream.specs.Stream.{absorbed}
 use Rattle.columns.specs.Column.{columnOf}
-use Rattle.banquet.specs.Sets.{aesScheme}
-use Rattle.banquet.specs.Signature.{framePart}
-use Rattle.frames.specs.Frames.{frame-fits}
-use Rattle.frame_hashes.proofs.Laws.{column-fits}
+use Rattle.frame_hashes.proofs.Laws.{sums-last}
 use Rattle.frame_hashes.proofs.absorb_third.Statement.{statement}
 use Rattle.frame_hashes.proofs.absorb_third.Tie as tie
 
-abbrev start : tie.After-frame-sizes → tie.Start
-start z = (z .before .before .before)
+rest-le : (a b : ℕ) → a - b ≤ a
+rest-le a b = omega arith
 
-field-requires : tie.Need-field-requires
-field-requires c κs =
-    let z = (c .before .before) in
-    frame-fits (start z .pre .0) (start z .args .frame .now) (z .frame-sizes .ensures) (start z .pre .1) 5 (omega arith)
+module _ (r : tie.After-row-length) where
+  abbrev start : tie.Start
+  start = (r .before .before .before)
 
-field-requires-2 : tie.Need-field-requires-2
-field-requires-2 c κs =
-    let z = (c .before .before .before .before .before) in
-    frame-fits (start z .pre .0) (start z .args .frame .now) (z .frame-sizes .ensures) (start z .pre .1) 6 (omega arith)
+  least : 16 ≤ r .row-length .result
+  least = omega (arith, r .row-length .ensures)
 
-field-requires-3 : tie.Need-field-requires-3
-field-requires-3 c κs =
-    let z = (c .before .before .before .before .before .before .before .before) in
-    frame-fits (start z .pre .0) (start z .args .frame .now) (z .frame-sizes .ensures) (start z .pre .1) 7 (omega arith)
-
-mul-absorb-column : tie.Need-mul-absorb-column
-mul-absorb-column c = omega (arith, start (c .before .before .before .before .before .before .before .before .before .before .before) .pre .0 .wide-most)
+  within : r .row-length .result - 16 ≤ length (start .args .frame .now)
+  within = omega (arith, start .pre .1, r .row-length .ensures)
 
 absorb-column-requires : tie.Need-absorb-column-requires
 absorb-column-requires c κs =
-    let r = (c .before .before .before .before .before .before .before .before .before .before) in
-    let s = start (r .before) in
-    column-fits (s .pre .0) (s .args .rows .now) 16 (21 * s .args .shape .wide) (s .pre .2) (r .row-length .ensures) (omega arith)
+    let r = (c .before .before) in
+    (start r .pre .2 ∙ ap (λ (m : ℕ). start r .args .shape .parties * m) (sym (r .row-length .ensures)), omega (arith, least r))
 
 returns : tie.Need-returns
 returns c =
-    let z = (c .before .before .before .before .before .before .before .before .before .before .before .before) in
-    let r = (c .before .before .before .before .before .before .before .before .before .before .before) in
-    let a = start z .args in
-    let part : (k : ℕ) → field (z .frame-sizes .result) k (a .frame .now) ≡ framePart (aesScheme (a .shape)) (a .frame .now) k =
-    λ k. ap (λ l. field l k (a .frame .now)) (z .frame-sizes .ensures) in
-    let column = ap (λ m. columnOf (a .shape .parties) m 16 (21 * a .shape .wide) (a .rows .now)) (r .row-length .ensures) in
-    let first = (c .before .before .before .before .before .before .before .before) .absorb .ensures ∙ ap (absorbed (a .s)) ((c .before .before .before .before .before .before .before .before .before) .field .ensures ∙ part 5) in
-    let second = more (a .s) _ _ first ((c .before .before .before .before .before) .absorb2 .ensures ∙ ap (absorbed ((c .before .before .before .before .before .before .before .before) .absorb .result)) ((c .before .before .before .before .before .before) .field2 .ensures ∙ part 6)) in
-    let third = more (a .s) _ _ second ((c .before .before) .absorb3 .ensures ∙ ap (absorbed ((c .before .before .before .before .before) .absorb2 .result)) ((c .before .before .before) .field3 .ensures ∙ part 7)) in
-    more (a .s) _ _ third (c .absorb-column .ensures ∙ ap (absorbed ((c .before .before) .absorb3 .result)) column)
+    let r = (c .before .before .before) in
+    let a = start r .args in
+    let sums = sums-last (a .shape) (a .frame .now) (start r .pre .1) (r .row-length .ensures) in
+    let column = ap (λ (m : ℕ). columnOf (a .shape .parties) m 16 (m - 16) (a .rows .now)) (r .row-length .ensures) in
+    more (a .s) _ _ ((c .before) .absorb .ensures ∙ ap (absorbed (a .s)) sums) (c .absorb-column .ensures ∙ ap (absorbed ((c .before) .absorb .result)) column)
 
 pub absorb-third-spec : {M : Type 1} → statement M
 absorb-third-spec =
     tie.close
-    (tie.spec (λ c κs. search needs) (λ c κs. search needs) (λ c. search needs) field-requires (λ c κs. search needs) (λ c. search needs)
-    field-requires-2 (λ c κs. search needs) (λ c. search needs) field-requires-3 (λ c κs. search needs) mul-absorb-column absorb-column-requires
-    returns)
+    (tie.spec (λ c κs. (c .before .before) .pre .0) least within (λ c. rest-le _ _) (λ c. rest-le _ _) (λ c. le-refl _) (λ c κs. tt) absorb-column-requires returns)

@@ -1,20 +1,19 @@
--- `hash_inputs::tagged` meets its contract: the buffer holds the byte and the hash. Assumes nothing.
-use mathlib.Core.Path.{ap₂, _∙_}
+-- `hash_inputs::tagged` meets its contract: the byte is absorbed, and then the hash. Assumes nothing.
+use mathlib.Core.Path.{ap, _∙_}
+use mathlib.Core.List.{[], _∷_}
 use borrow.Author.Needs.{needs}
 use Rattle.stream.specs.Stream.{absorbed}
-use Rattle.hash_inputs.proofs.Laws.{tagged-input}
+use Rattle.stream.proofs.Stream.{joined}
 use Rattle.hash_inputs.proofs.tagged.Statement.{statement}
 use Rattle.hash_inputs.proofs.tagged.Tie as tie
 
 returns : tie.Need-returns
 returns c =
-    let n = c .before .before in
-    let k = n .before .before in
-    let s = k .before .before .before in
-    c .absorb .ensures ∙ ap₂ absorbed (n .new .ensures) (tagged-input (s .args .tag) (s .args .h .now) (s .pre) (k .copy-at .ensures))
+    let n = c .before .before .before in
+    let a = n .before .before .args in
+    joined (a .tag ∷ []) (a .h .now) (c .before .absorb .ensures ∙ ap (λ s. absorbed s (a .tag ∷ [])) (n .new .ensures)) (c .absorb2 .ensures)
 
 pub tagged-spec : {M : Type 1} → statement M
 tagged-spec =
     tie.close
-    (tie.spec (λ c. search needs) (λ c. search needs) (λ c κs. search needs) (λ c κs. search needs) (λ c. search needs) (λ c κs. search needs)
-    returns)
+    (tie.spec (λ c κs. search needs) (λ c. search needs) (λ c κs. search needs) (λ c κs. search needs) returns)

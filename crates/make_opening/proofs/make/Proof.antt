@@ -1,63 +1,128 @@
 -- `make_opening::make` meets its contract. Assumes nothing.
-use mathlib.Core.Path.{sym, ap, subst, _∙_}
-use Prim.Native.Nat.{_*_, _≤_}
-use native.Mathlib.Omega.{arith}
-use borrow.Author.Needs.{needs}
-use Rattle.sets.specs.Bounds.{leaves-most, rows-most}
+use mathlib.Core.Path.{refl, sym, ap, _∙_}
+use Prim.Native.Nat.{_*_, _-_, _≤_, zero-le}
+use native.Mathlib.Nat.{le-trans}
+use lib.ListN.{length}
+use lib.Dec.{lit≤}
+use borrow.Rule.Slice.PartMut.{same-len-mid}
+use Rattle.sets.specs.Bounds.{by-points}
 use Rattle.scratch.proofs.Laws.{scratch-front, front-output}
 use Rattle.party_shares.proofs.Laws.{front-long}
+use Rattle.make_opening.proofs.Laws.{
+  in-word,
+  at-most,
+  seeds-room,
+  few-nodes,
+  points-room,
+  rows-room,
+  inputs-long,
+  inverses-long,
+  at-points,
+}
 use Rattle.make_opening.proofs.make.Statement.{statement}
 use Rattle.make_opening.proofs.make.Tie as tie
 
--- the rows' count of bytes, and the seeds'
-module _ (c : tie.After-row-length) where
-  abbrev start : tie.Start
-  start = c .before .before .before .before .before .before .before .before .before .before .before
+-- the moments that a need looks back to: the start, and after each call
+abbrev start : tie.After-leaf-bytes → tie.Start
+start c = c .before .before .before .before .before .before .before .before .before .before
 
-  counted : start .args .shape .parties * c .row-length .result ≤ 18176
-  counted = subst (λ n. start .args .shape .parties * n ≤ 18176) (sym (c .row-length .ensures)) (rows-most (start .pre .0 .valid))
+abbrev leaved : tie.After-true-rows → tie.After-leaf-bytes
+leaved c = c .before .before .before .before .before .before .before .before .before
 
-  leaved : c .before .leaf-bytes .result ≤ 2048
-  leaved = omega (arith, c .before .leaf-bytes .ensures, leaves-most (start .pre .0 .valid))
+abbrev begun : tie.After-row-length → tie.Start
+begun c = start (leaved (c .before .before .before .before .before))
 
-make-rows-requires : tie.Need-make-rows-requires
-make-rows-requires c κs =
-    let sized = c .before .before .before in
-    let rowed = sized .before .before in
-    let leaved = rowed .before in
-    let s = leaved .before .before .before .before .before .before .before .before .before .before in
+abbrev rowed : tie.After-opening-length → tie.After-row-length
+rowed c = c .before .before
+
+abbrev sized : tie.After-make-shares-arg2 → tie.After-opening-length
+sized c = c .before .before .before .before .before .before .before
+
+-- the parts that are lent are there: of the seeds, of the work slice and of out
+seeds-fit : (c : tie.After-leaf-bytes) → c .leaf-bytes .result ≤ 2048
+seeds-fit c = seeds-room (start c .pre .0 .valid) (c .leaf-bytes .ensures)
+
+rows-fit : (c : tie.After-row-length) → begun c .args .shape .parties * c .row-length .result ≤ 65536
+rows-fit c = rows-room (begun c .pre .0 .valid) (c .row-length .ensures)
+
+opening-fits : (c : tie.After-opening-length) → c .opening-length .result ≤ length (begun (rowed c) .args .out .now)
+opening-fits c = at-most (c .opening-length .ensures) (begun (rowed c) .pre .3)
+
+expand-requires : tie.Need-expand-requires
+expand-requires c κs =
+    let l = c .before .before in
+    let p = start l .pre in
+    (p .0 .salt-size, p .0 .root-size, front-long _ (l .leaf-bytes .ensures) (seeds-fit l), few-nodes (p .0 .valid))
+
+true-rows-requires : tie.Need-true-rows-requires
+true-rows-requires c κs =
+    let s = start (c .before .before .before .before .before .before .before .before) in
     let p = s .pre in
-    let room = counted rowed in (
+    let v = p .0 .valid in (v, inputs-long v (p .2), inverses-long v (s .args .key .now) (s .args .public .now) (p .2 .inverses-is), refl, refl, refl)
+
+make-shares-requires : tie.Need-make-shares-requires
+make-shares-requires c κs =
+    let r = rowed (sized c) in
+    let at-true-rows = r .before .before .before .before .before in
+    let s = begun r in
+    let p = s .pre in
+    let t = at-true-rows .true-rows .ensures in
+    let v = p .0 .valid in (
       p .0,
       p .1,
-      p .2,
-      front-long _ (leaved .leaf-bytes .ensures) (omega (arith, leaved .leaf-bytes .ensures, leaves-most (p .0 .valid))),
-      front-long _ (ap (λ n. s .args .shape .parties * n) (rowed .row-length .ensures)) (omega (arith, room, p .4)),
-      front-long _ (sized .opening-length .ensures) (omega (arith, sized .opening-length .ensures, p .3)),
+      at-points v (p .2) (t .0) (t .1 .0) (t .1 .1),
+      at-true-rows .before .before .before .before .before .before .expand .ensures,
+      front-long _ (sym (by-points v (s .args .shape .wide))) (points-room v),
+      front-long _ (ap (λ n. s .args .shape .parties * n) (r .row-length .ensures)) (le-trans (rows-fit r) (p .4)),
+      front-long _ (sized c .opening-length .ensures) (opening-fits (sized c)),
     )
 
 returns : tie.Need-returns
 returns c =
-    let done = c .before .before .before .before .before in
-    let sized = done .before .before .before .before in
-    let rowed = sized .before .before in
-    let s = rowed .before .before .before .before .before .before .before .before .before .before .before in
+    let done = c .before .before .before .before .before .before in
+    let z = sized (done .before) in
+    let s = begun (rowed z) in
     let d = s .args .out .now in
-    let p = s .pre in
-    let room = counted rowed in
-    let size = sized .opening-length in
-    let m = done .make-rows in
-    let long = m .kept .1 .1 .1 .1 .1 .1 .1 .1 .1 .1 .1 .1 .1 .0 ∙ front-long d (size .ensures) (omega (arith, size .ensures, p .3)) in (
+    let size = z .opening-length in
+    let m = done .make-shares in
+    let long = m .kept .1 .1 .1 .1 .1 .1 .1 .1 .1 .1 .1 .1 .1 .1 .1 .1 .0 ∙ front-long d (size .ensures) (opening-fits z) in (
       front-output (size .result) d (m .ensures) (long ∙ sym (size .ensures)),
-      scratch-front (s .args .shape .parties * rowed .row-length .result) (s .args .work .now) (m .last .1 .1 .1 .1 .1 .1 .1 .1 .1 .1 .1 .1 .0)
-          (omega (arith, room)) (p .4) (m .kept .1 .1 .1 .1 .1 .1 .1 .1 .1 .1 .1 .1 .0),
+      scratch-front (s .args .shape .parties * rowed z .row-length .result) (s .args .work .now)
+          (m .last .1 .1 .1 .1 .1 .1 .1 .1 .1 .1 .1 .1 .1 .1 .1 .0) (rows-fit (rowed z)) (s .pre .4)
+          (m .kept .1 .1 .1 .1 .1 .1 .1 .1 .1 .1 .1 .1 .1 .1 .1 .0),
     )
+
+-- out and the work slice are as long as they were
+out-kept : tie.Need-same-length
+out-kept c =
+    let done = c .before .before .before .before .before .before in
+    let z = sized (done .before) in
+    same-len-mid 0 (z .opening-length .result - 0) (begun (rowed z) .args .out .now)
+    (done .make-shares .last .1 .1 .1 .1 .1 .1 .1 .1 .1 .1 .1 .1 .1 .1 .1 .1 .0) (done .make-shares .kept .1 .1 .1 .1 .1 .1 .1 .1 .1 .1 .1 .1 .1 .1 .1 .1 .0)
+
+work-kept : tie.Need-same-length-2
+work-kept c =
+    let done = c .before .before .before .before .before .before in
+    let r = rowed (sized (done .before)) in
+    let s = begun r in
+    same-len-mid 0 (s .args .shape .parties * r .row-length .result - 0) (s .args .work .now)
+    (done .make-shares .last .1 .1 .1 .1 .1 .1 .1 .1 .1 .1 .1 .1 .1 .1 .1 .0)
+    (done .make-shares .kept .1 .1 .1 .1 .1 .1 .1 .1 .1 .1 .1 .1 .1 .1 .1 .0)
 
 pub make-spec : {M : Type 1} → statement M
 make-spec =
     tie.close
-    (tie.spec (λ c κs. search needs) (λ c κs. search needs) (λ c. omega (arith, counted (c .before))) (λ c κs. search needs) (λ c. search needs)
-    (λ c. search needs) (λ c. leaved (c .before .before)) (λ c. search needs) (λ c. search needs)
-    (λ c. let r = c .before .before .before in omega (arith, counted r, start r .pre .4)) (λ c. search needs) (λ c. search needs)
-    (λ c. let z = c .before .before in omega (arith, z .opening-length .ensures, start (z .before .before) .pre .3)) make-rows-requires
-    (λ c. search needs) (λ c. search needs) returns)
+    (tie.spec (λ c κs. c .before .before .before .before .before .before .before .before .before .pre .0 .valid) (λ c. zero-le)
+    (λ c. zero-le) seeds-fit expand-requires (λ c. refl) (λ c. refl) (λ c. refl)
+    true-rows-requires (λ c. in-word (points-room (start (leaved (c .before .before .before .before)) .pre .0 .valid)) (lit≤ tt))
+    (λ c κs. start (leaved (c .before .before .before .before)) .pre .0 .valid) (λ c. in-word (rows-fit (c .before)) (lit≤ tt))
+    (λ c κs. begun (c .before) .pre .0 .valid)
+    (λ c. sym (c .before .before .before .before .before .before .before .before .before .true-rows .kept .1 .1 .1 .0))
+    (λ c. sym (c .before .before .before .before .before .before .before .before .before .before .true-rows .kept .1 .1 .1 .1 .0))
+    (λ c. sym (c .before .before .before .before .before .before .before .before .before .before .before .true-rows .kept .1 .1 .1 .1 .1 .0))
+    (λ c. zero-le) (λ c. zero-le)
+    (λ c. points-room (start (leaved (c .before .before .before .before .before .before .before .before .before .before .before)) .pre .0 .valid))
+    (λ c. zero-le) (λ c. zero-le)
+    (λ c. let r = c .before .before .before .before .before .before .before in le-trans (rows-fit r) (begun r .pre .4)) (λ c. zero-le)
+    (λ c. zero-le) (λ c. opening-fits (c .before .before .before .before .before .before))
+    make-shares-requires out-kept work-kept returns)

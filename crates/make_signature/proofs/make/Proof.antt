@@ -1,119 +1,160 @@
 -- `make_signature::make` meets its contract: the frames are made, and the head is written in front of them. Assumes nothing.
-use mathlib.Core.Path.{_≡_, ap, _∙_}
-use mathlib.Core.List.{List}
+use mathlib.Core.Path.{_≡_, refl, sym, _∙_}
+use mathlib.Core.List.{List, _++_}
 use Prim.Native.Nat.{ℕ, _-_, _*_}
 use native.Mathlib.Omega.{arith}
-use lib.ListN.{length, take, drop, replicate, length-drop}
+use lib.ListN.{length, take, drop, length-drop}
 use lib.Seq.{length-take-le}
-use borrow.Author.Needs.{needs}
 use borrow.Rule.Slice.PartMut.{putMid, same-len-mid}
 use Rattle.slices.specs.Layout.{total}
-use Rattle.slices.proofs.Put.{front-long}
-use Rattle.banquet.specs.Shape.{frameSizes, firstChallengeLength}
-use Rattle.banquet.specs.Signature.{signerH1, signerH3}
-use Rattle.sets.specs.Bounds.{by-ten}
-use Rattle.make_signature.proofs.Laws.{firsts-most, file-made, signature-is}
-use Rattle.make_signature.proofs.Hashes.{first-size, third-size}
+use Rattle.banquet.specs.Shape.{frameSizes}
+use Rattle.scratch.specs.Scratch.{scratch-then}
+use Rattle.signing.specs.Witness.{Witness, inputs-long, inverses-long}
+use Rattle.signing.specs.Passes.{Passes}
+use Rattle.signing.specs.Made.{first-made, third-made, frames-made}
+use Rattle.make_signature.proofs.Laws.{file-made, signature-is}
 use Rattle.make_signature.proofs.make.Statement.{statement}
 use Rattle.make_signature.proofs.make.Tie as tie
 
-mul-n : tie.Need-mul-n
-mul-n c =
-    let s = (c .before .before .before .before .before .before .before .before .before .before) in omega (arith, by-ten (s .pre .0 .valid) (s .args .shape .wide), s .pre .0 .valid .wide-most)
+-- ---- the frames, lent as `&mut out[96..end]`
 
-mul-n-2 : tie.Need-mul-n-2
-mul-n-2 c =
-    let s = (c .before .before .before .before .before .before .before .before .before .before .before) in omega (arith, firsts-most (s .pre .0 .valid))
+module _ (s : tie.Start) where
+  abbrev lent : List ℕ
+  lent = take (length (s .args .out .now) - 96) (drop 96 (s .args .out .now))
 
-part-firsts-end : tie.Need-part-firsts-end
-part-firsts-end c =
-    let s = (c .before .before .before .before .before .before .before .before .before .before .before) in omega (arith, firsts-most (s .pre .0 .valid))
+  lent-size : length lent ≡ s .args .shape .executions * total (frameSizes (s .args .shape))
+  lent-size =
+      length-take-le (length (s .args .out .now) - 96) (drop 96 (s .args .out .now)) (omega (arith, length-drop 96 (s .args .out .now)))
+      ∙ omega (arith, s .pre .1)
 
--- ---- the frames
+  inverses-size : length (s .args .inverses .now) ≡ 200
+  inverses-size = inverses-long (s .args .shape) (s .args .key .now) (s .args .public .now) (s .pre .0 .inverses-is)
 
-frames-long : (s : tie.Start)
-    → length (take (length (s .args .out .now) - 96) (drop 96 (s .args .out .now))) ≡ s .args .shape .executions * total (frameSizes (s .args .shape))
-frames-long s =
-    length-take-le (length (s .args .out .now) - 96) (drop 96 (s .args .out .now)) (omega (arith, length-drop 96 (s .args .out .now)))
-    ∙ omega (arith, s .pre .1)
+commit-pass-requires : tie.Need-commit-pass-requires
+commit-pass-requires c κs =
+    let s = c .before .before .before .before .before .before .before .before .before .before .before .before in
+    let g = s .pre .0 in
+    (record { valid = g .valid; frames-size = lent-size s }, g .key-size, inverses-size s, g .public-size, g .salt-size, g .roots-size, s .pre .2)
 
-module _ (x : tie.After-make-frames) where
+module _ (b : tie.After-commit-pass) where
   abbrev start : tie.Start
-  start = (x .before .before .before .before .before .before .before .before .before .before .before .before .before .before .before)
+  start = b .before .before .before .before .before .before .before .before .before .before .before .before .before
+
+  h1-size : length (b .commit-pass .result) ≡ 32
+  h1-size = b .commit-pass .ok .1 .0 .1
+
+answer-passes-requires : tie.Need-answer-passes-requires
+answer-passes-requires c κs =
+    let b = c .before .before .before .before .before .before in
+    let s = start b in
+    let g = s .pre .0 in (
+      record { valid = g .valid; frames-size = b .commit-pass .kept .1 .1 .1 .1 .1 .1 .1 .0 ∙ lent-size s },
+      g .public-size,
+      g .salt-size,
+      g .roots-size,
+      inputs-long (s .args .shape) (s .args .key .now) (s .args .public .now) (g .inputs-is),
+      inverses-size s,
+      h1-size b,
+      omega (arith, b .commit-pass .kept .1 .1 .1 .1 .1 .1 .1 .1 .0, s .pre .2),
+    )
+
+-- ---- what the passes leave
+
+module _ (x : tie.After-answer-passes) where
+  abbrev begun : tie.After-commit-pass
+  begun = x .before .before .before .before .before .before .before
+
+  abbrev entry : tie.Start
+  entry = start begun
 
   abbrev out : List ℕ
-  out = start .args .out .now
+  out = entry .args .out .now
 
   abbrev frames : List ℕ
-  frames = x .make-frames .last .1 .1 .1 .1 .1 .1 .1 .1 .1 .0
+  frames = x .answer-passes .last .1 .1 .1 .1 .1 .1 .1 .0
 
-  frames-size : length frames ≡ start .args .shape .executions * total (frameSizes (start .args .shape))
-  frames-size = x .make-frames .kept .1 .1 .1 .1 .1 .1 .1 .1 .1 .0 ∙ frames-long start
+  frames-kept : length frames ≡ length (lent entry)
+  frames-kept = x .answer-passes .kept .1 .1 .1 .1 .1 .1 .1 .0 ∙ begun .commit-pass .kept .1 .1 .1 .1 .1 .1 .1 .0
 
   out-long : length (putMid 96 (length out - 96) out frames) ≡ length out
-  out-long = same-len-mid 96 (length out - 96) out frames (x .make-frames .kept .1 .1 .1 .1 .1 .1 .1 .1 .1 .0)
+  out-long = same-len-mid 96 (length out - 96) out frames frames-kept
 
-  first-long : length (x .make-frames .result .first) ≡ 32
-  unfolding signerH1
-  first-long = ap length (x .make-frames .ensures .0) ∙ first-size (start .args .shape) _ _ _ _
+  h3-size : length (x .answer-passes .result) ≡ 32
+  h3-size = x .answer-passes .ok .1 .0 .1
 
-  third-long : length (x .make-frames .result .third) ≡ 32
-  unfolding signerH3
-  third-long = ap length (x .make-frames .ensures .1 .0) ∙ third-size (start .args .shape) _ _
+  witness : Witness (entry .args .shape) (entry .args .key .now) (entry .args .public .now) (entry .args .inputs .now) (entry .args .inverses .now)
+      (entry .args .key .now ++ entry .args .inverses .now)
+  witness =
+      let g = entry .pre .0 in
+      record { key-size = g .key-size; inputs-is = g .inputs-is; inverses-is = g .inverses-is; witness-is = refl }
 
-make-frames-requires : tie.Need-make-frames-requires
-make-frames-requires c κs =
-    let s = (c .before .before .before .before .before .before .before .before .before .before .before .before .before .before) in
-    let a = s .args in
-    let zeros : List ℕ = replicate 15360 0 in
-    (s .pre .0, front-long (a .shape .executions * firstChallengeLength (a .shape)) zeros (omega (arith, firsts-most (s .pre .0 .valid))), frames-long s, s .pre .2)
+  passes : Passes (entry .args .shape) (entry .args .public .now) (entry .args .message .now) (entry .args .salt .now) (entry .args .roots .now)
+      (entry .args .inputs .now) (entry .args .inverses .now) (entry .args .key .now ++ entry .args .inverses .now) (lent entry)
+      (begun .commit-pass .result) (begun .commit-pass .last .1 .1 .1 .1 .1 .1 .1 .0) (x .answer-passes .ensures .0 .firsts) (x .answer-passes .ensures .0 .held)
+      (x .answer-passes .ensures .0 .h2) (x .answer-passes .result) (x .answer-passes .ensures .0 .opened) frames
+  passes =
+      let e = x .answer-passes .ensures .0 in
+      record {
+        frames-size = lent-size entry;
+        h1-is = begun .commit-pass .ensures .0;
+        begun-is = begun .commit-pass .ensures .1 .0;
+        firsts-is = e .firsts-is;
+        held-is = e .held-is;
+        h2-is = e .h2-is;
+        h3-is = e .h3-is;
+        opened-is = e .opened-is;
+        finished-is = e .finished-is;
+      }
+
+-- ---- the head
 
 copy-at-requires : tie.Need-copy-at-requires
 copy-at-requires c κs =
-    let x = (c .before .before .before .before .before .before .before .before) in omega (arith, out-long x, start x .pre .0 .salt-size, start x .pre .1)
+    let x = c .before .before .before .before .before in omega (arith, out-long x, entry x .pre .0 .salt-size, entry x .pre .1)
 
 copy-at-requires-2 : tie.Need-copy-at-requires-2
 copy-at-requires-2 c κs =
-    let k = (c .before .before .before .before) in
-    let x = (k .before .before .before .before .before .before .before .before .before) in omega (arith, k .copy-at .kept .0, first-long x, out-long x, start x .pre .1)
+    let x = c .before .before .before .before .before .before .before .before .before .before in
+    omega (arith, c .before .before .before .before .copy-at .kept .0, h1-size (begun x), out-long x, entry x .pre .1)
 
 copy-at-requires-3 : tie.Need-copy-at-requires-3
 copy-at-requires-3 c κs =
-    let m = (c .before .before .before .before) in
-    let k = (m .before .before .before .before .before) in
-    let x = (k .before .before .before .before .before .before .before .before .before) in omega (arith, m .copy-at2 .kept .0, k .copy-at .kept .0, third-long x, out-long x, start x .pre .1)
+    let x = c .before .before .before .before .before .before .before .before .before .before .before .before .before .before .before in
+    omega (arith, c .before .before .before .before .copy-at2 .kept .0, c .before .before .before .before .before .before .before .before .before .copy-at .kept .0, h3-size x, out-long x, entry x .pre .1)
+
+same-length : tie.Need-same-length
+same-length c =
+    c .before .before .copy-at3 .kept .0 ∙ c .before .before .before .before .before .before .before .copy-at2 .kept .0
+    ∙ c .before .before .before .before .before .before .before .before .before .before .before .before .copy-at .kept .0 ∙ out-long (c .before .before .before .before .before .before .before .before .before .before .before .before .before .before .before .before .before .before)
 
 returns : tie.Need-returns
 returns c =
-    let m = (c .before .before .before .before .before .before .before) in
-    let k = (m .before .before .before .before .before) in
-    let x = (k .before .before .before .before .before .before .before .before .before) in
-    let s = start x in (
-      file-made (out x) (frames x) (s .args .salt .now) (x .make-frames .result .first) (x .make-frames .result .third) (s .pre .1) (frames-size x)
-          (s .pre .0 .salt-size) (first-long x) (third-long x) (k .copy-at .ensures) (m .copy-at2 .ensures) ((c .before .before) .copy-at3 .ensures)
-          ∙ signature-is (s .args .shape) (s .args .key .now) (s .args .public .now) (s .args .message .now) (s .args .salt .now) (s .args .roots .now)
-          (x .make-frames .ensures .0) (x .make-frames .ensures .1 .0) (x .make-frames .ensures .1 .1 .0),
-      x .make-frames .ensures .1 .1 .1,
+    let x = c .before .before .before .before .before .before .before .before .before .before .before .before .before .before .before .before .before .before in
+    let a = entry x .args in
+    let g = entry x .pre .0 in (
+      file-made (out x) (frames x) (a .salt .now) (begun x .commit-pass .result) (x .answer-passes .result) (entry x .pre .1)
+          (frames-kept x ∙ lent-size (entry x)) (g .salt-size) (h1-size (begun x)) (h3-size x) (c .before .before .before .before .before .before .before .before .before .before .before .before .copy-at .ensures)
+          (c .before .before .before .before .before .before .before .copy-at2 .ensures) (c .before .before .copy-at3 .ensures)
+          ∙ signature-is (a .shape) (a .key .now) (a .public .now) (a .message .now) (a .salt .now) (a .roots .now)
+          (first-made (g .valid) (witness x) (passes x)) (third-made (g .valid) (witness x) (passes x)) (frames-made (g .valid) (witness x) (passes x)),
+      scratch-then (begun x .commit-pass .ensures .1 .1) (x .answer-passes .ensures .1),
     )
 
 pub make-spec : {M : Type 1} → statement M
 make-spec =
     tie.close
     (tie.spec
-    mul-n
-    mul-n-2
-    (λ c. search needs)
-    (λ c. search needs)
-    part-firsts-end
-    (λ c. search needs)
-    (λ c. search needs)
-    (λ c. search needs)
-    make-frames-requires
+    (λ c. omega (arith, c .before .before .before .before .before .before .before .before .before .pre .1))
+    (λ c. omega (arith, c .before .before .before .before .before .before .before .before .before .pre .1))
+    (λ c. omega arith)
+    commit-pass-requires
+    (λ c. sym (h1-size (c .before .before .before .before .before)))
+    answer-passes-requires
     copy-at-requires
-    (λ c. search needs)
+    (λ c. sym (h1-size (c .before .before .before .before .before .before .before .before .before .before .before .before .before .before .before .before .before)))
     copy-at-requires-2
-    (λ c. search needs)
+    (λ c. sym (h3-size (c .before .before .before .before .before .before .before .before .before .before .before .before .before .before .before)))
     copy-at-requires-3
-    (λ c. search needs)
-    (λ c. search needs)
+    same-length
+    (λ c. c .before .before .before .before .before .before .before .before .before .before .before .before .before .before .before .before .before .before .answer-passes .kept .1 .1 .1 .1 .1 .1 .1 .1 .0 ∙ c .before .before .before .before .before .before .before .before .before .before .before .before .before .before .before .before .before .before .before .before .before .before .before .before .before .commit-pass .kept .1 .1 .1 .1 .1 .1 .1 .1 .0)
     returns)

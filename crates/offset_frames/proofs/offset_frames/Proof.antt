@@ -5,7 +5,6 @@ use Prim.Native.Nat.{ℕ, _+_, _-_, _*_, _≤_}
 use native.Mathlib.Nat.{mul-le-mul}
 use native.Mathlib.Omega.{arith}
 use lib.ListN.{length}
-use borrow.Author.Needs.{needs}
 use Rattle.slices.specs.Lists.{row}
 use Rattle.slices.specs.Layout.{total}
 use Rattle.slices.proofs.Rows.{row-fits, row-long, row-cut}
@@ -103,11 +102,26 @@ returns c =
 pub offset-frames-spec : {M : Type 1} → statement M
 offset-frames-spec =
     tie.close
-    (tie.spec Inv-loop μ-loop (λ c. search needs) (λ c. search needs) (λ c. search needs) (λ c. search needs)
+    (tie.spec Inv-loop μ-loop
+    (λ c. omega (arith, c .before .before .before .before .before .before .pre .0 .valid .shallow))
+    (λ c. omega (arith, c .before .before .before .before .before .before .pre .0 .valid .shallow))
+    (λ c. omega (arith, c .before .before .before .before .before .before .before .pre .0 .valid .wide-most))
+    (λ c. let v = c .before .before .before .before .before .before .before .pre .0 .valid in omega (arith, v .shallow, v .wide-most))
     (λ c. omega (arith, small (c .before .before .before .before .before .before .before .before)))
     (λ c. (omega arith, reworking-none _ _ (whole (c .before .before .before .before .before .before .before .before))))
-    (λ c. omega (arith, first-fits c, firsts-bound (s c))) (λ c. omega (arith, first-fits c, firsts-bound (s c)))
-    (λ c. omega (arith, fits c, bound (s c))) (λ c. omega (arith, fits c, bound (s c))) (λ c. search needs) (λ c. search needs)
-    (λ c. omega (arith, first-fits c, s c .pre .1)) (λ c. search needs) (λ c. search needs)
-    (λ c. omega (arith, fits (c .before), c .before .before .loop .inv .1 .done .long)) offset-frame-requires (λ c. search needs)
-    (λ c. search needs) loop-again same-length returns)
+    (λ c. omega (arith, first-fits c, firsts-bound (s c)))
+    (λ c. omega (arith, first-fits c, firsts-bound (s c)))
+    (λ c. omega (arith, fits c, bound (s c)))
+    (λ c. omega (arith, fits c, bound (s c)))
+    (λ c. omega arith)
+    (λ c. omega arith)
+    (λ c. omega (arith, first-fits c, s c .pre .1))
+    (λ c. omega arith)
+    (λ c. omega arith)
+    (λ c. omega (arith, fits (c .before), c .before .before .loop .inv .1 .done .long))
+    offset-frame-requires
+    (λ c. let i = c .before .before .before .before .before in omega (arith, i .loop-test .taken, s i .pre .0 .valid .brief))
+    (λ c. omega (arith, (c .before .before .before .before .before) .loop-test .taken))
+    loop-again
+    same-length
+    returns)

@@ -1,6 +1,8 @@
 -- `open_execution::open_execution` meets its contract: the lengths are tested in order. Assumes nothing.
+use mathlib.Core.Path.{subst}
+use Prim.Native.Nat.{_≤_, _<_}
 use native.Mathlib.Omega.{arith}
-use borrow.Author.Needs.{needs}
+use lib.ListN.{length}
 use Rattle.sets.specs.Bounds.{by-ten}
 use Rattle.open_execution.specs.Answers.{key-refused, public-refused, salt-refused, first-refused, root-refused, output-refused, work-refused}
 use Rattle.open_execution.proofs.open_execution.Statement.{statement}
@@ -62,7 +64,7 @@ returns-6 c =
     let s = test1 .before .before .before .before .before .before .before .before in
     let a = s .args in
     output-refused (s .pre .0) (a .key .now) (a .public .now) (a .salt .now) (a .root .now) (a .first .now) (a .e) (a .second) (a .hidden) (a .out .now) (a .work .now)
-    (test1 .if1 .left) (test2 .if2 .left) (test3 .if3 .left) (test4 .if4 .left) (test5 .if5 .left) (omega (arith, c .if6 .taken, at-opening-length .opening-length .ensures))
+    (test1 .if1 .left) (test2 .if2 .left) (test3 .if3 .left) (test4 .if4 .left) (test5 .if5 .left) (subst (length (a .out .now) <_) (at-opening-length .opening-length .ensures) (c .if6 .taken))
 
 returns-7 : tie.Need-returns-7
 returns-7 c =
@@ -77,15 +79,21 @@ returns-7 c =
     let a = s .args in
     work-refused (s .pre .0) (a .key .now) (a .public .now) (a .salt .now) (a .root .now) (a .first .now) (a .e) (a .second) (a .hidden) (a .out .now) (a .work .now)
     (test1 .if1 .left) (test2 .if2 .left) (test3 .if3 .left) (test4 .if4 .left) (test5 .if5 .left)
-    (omega (arith, test6 .if6 .left, at-opening-length .opening-length .ensures)) (c .if7 .taken)
+    (subst (_≤ length (a .out .now)) (at-opening-length .opening-length .ensures) (test6 .if6 .left)) (c .if7 .taken)
 
 mul-if4 : tie.Need-mul-if4
 mul-if4 c =
     let s = c .before .before .before .before .before .before .before .before .before .before .before in
     omega (arith, by-ten (s .pre .0) (s .args .shape .wide), s .pre .0 .wide-most)
 
-open-ranges-requires : tie.Need-open-ranges-requires
-open-ranges-requires c κs =
+opening-length-requires : tie.Need-opening-length-requires
+opening-length-requires c κs =
+    let test3 = c .before .before .before in
+    let s = test3 .before .before .before .before .before .before .before .before .before .before in
+    s .pre .0
+
+open-key-requires : tie.Need-open-key-requires
+open-key-requires c κs =
     let test7 = c .before .before in
     let test6 = test7 .before in
     let at-opening-length = test6 .before in
@@ -105,12 +113,14 @@ open-ranges-requires c κs =
         first-size = test4 .if4 .left;
       },
       p .1,
-      omega (arith, test6 .if6 .left, at-opening-length .opening-length .ensures),
+      subst (_≤ length (s .args .out .now)) (at-opening-length .opening-length .ensures) (test6 .if6 .left),
       test7 .if7 .left,
     )
 
 pub open-execution-spec : {M : Type 1} → statement M
 open-execution-spec =
     tie.close
-    (tie.spec returns returns-2 returns-3 mul-if4 returns-4 returns-5 (λ c κs. search needs) returns-6 returns-7 open-ranges-requires
-    (λ c. search needs) (λ c. search needs) (λ c. c .before .before .before .before .open-ranges .ensures))
+    (tie.spec returns returns-2 returns-3 mul-if4 returns-4 returns-5 opening-length-requires returns-6 returns-7 open-key-requires
+    (λ c. c .before .before .before .before .open-key .kept .1 .1 .1 .1 .1 .1 .1 .1 .1 .0)
+    (λ c. c .before .before .before .before .open-key .kept .1 .1 .1 .1 .1 .1 .1 .1 .1 .1 .0)
+    (λ c. c .before .before .before .before .open-key .ensures))

@@ -4,7 +4,6 @@ use mathlib.Core.List.{List}
 use Prim.Native.Nat.{ℕ, _+_, _-_, _*_, _≤_}
 use native.Mathlib.Omega.{arith}
 use lib.ListN.{length, take, drop, replicate, length-drop}
-use borrow.Author.Needs.{needs}
 use borrow.Rule.Slice.PartMut.{putMid, same-len-mid}
 use Rattle.slices.specs.Lists.{sumXor}
 use Rattle.slices.proofs.Put.{front-long}
@@ -23,14 +22,17 @@ module _ (s : tie.Start) where
   abbrev size : ℕ
   size = 16 + 21 * s .args .shape .wide
 
+  wide-most : s .args .shape .wide ≤ 6
+  wide-most = s .pre .0 .wide-most
+
   few : size ≤ length zeros
-  few = omega (arith, s .pre .0 .wide-most)
+  few = omega (arith, wide-most)
 
 -- ---- the rows
 
 module _ (o : tie.After-open-rows) where
   abbrev start : tie.Start
-  start = (o .before .before .before .before .before .before .before .before .before)
+  start = o .before .before .before .before .before .before .before .before .before
 
   abbrev made : List ℕ
   made = o .open-rows .last .1 .1 .1 .1 .1 .1 .1 .1 .0
@@ -43,7 +45,7 @@ module _ (o : tie.After-open-rows) where
 
 sum-rows-requires : tie.Need-sum-rows-requires
 sum-rows-requires c κs =
-    let o = (c .before .before .before .before .before) in
+    let o = c .before .before .before .before .before in
     let s = start o in
     (s .pre .0 .some, made-long o ∙ ap (s .args .shape .parties *_) (sym (front-long (size s) zeros (few s))))
 
@@ -51,7 +53,7 @@ sum-rows-requires c κs =
 
 module _ (x : tie.After-sum-rows) where
   abbrev rows-made : tie.After-open-rows
-  rows-made = (x .before .before .before .before .before .before)
+  rows-made = x .before .before .before .before .before .before
 
   abbrev entry : tie.Start
   entry = start rows-made
@@ -65,11 +67,8 @@ module _ (x : tie.After-sum-rows) where
   abbrev array : List ℕ
   array = putMid 0 (size entry - 0) zeros sums
 
-  array-long : length array ≡ 142
-  array-long = same-len-mid 0 (size entry - 0) zeros sums (x .sum-rows .kept .1 .1 .0)
-
   room : size entry ≤ length array
-  room = omega (arith, array-long, entry .pre .0 .wide-most)
+  room = omega (arith, same-len-mid 0 (size entry - 0) zeros sums (x .sum-rows .kept .1 .1 .0), few entry)
 
   -- c, a and b
   read : take (size entry - 16) (drop 16 array) ≡ drop 16 sums
@@ -83,53 +82,50 @@ module _ (x : tie.After-sum-rows) where
       sums-made (entry .pre .0) (a .front .now) (a .salt .now) (a .root .now) (a .e) (a .first .now) (a .second) (a .frame .now)
       (rows-made .open-rows .ensures) (front-long (size entry) zeros (few entry)) (x .sum-rows .ensures)
 
-mul-q-2 : tie.Need-mul-q-2
-mul-q-2 c = let x = (c .before .before .before) in omega (arith, entry x .pre .0 .wide-most)
-
-add-q-2 : tie.Need-add-q-2
-add-q-2 c = let x = (c .before .before .before) in omega (arith, entry x .pre .0 .wide-most, entry x .pre .0 .shallow)
-
-part-copy-at-end : tie.Need-part-copy-at-end
-part-copy-at-end c = let x = (c .before .before .before .before .before) in room x
-
 copy-at-requires : tie.Need-copy-at-requires
 copy-at-requires c κs =
-    let x = (c .before .before .before .before .before .before) in
+    let x = c .before .before .before .before .before in
     let s = entry x in
     rw (read x) (omega (arith, length-drop 16 (sums x), sums-long x, frame-total (s .pre .0), s .pre .6))
 
-part-absorb-end : tie.Need-part-absorb-end
-part-absorb-end c = let x = (c .before .before .before .before .before .before .before .before .before .before) in room x
-
 -- ---- what h3 binds
 
-abbrev summed : tie.After-struct-known4 → tie.After-sum-rows
-summed z = (z .before .before .before .before .before .before .before .before .before .before .before .before .before)
-
-mul-absorb-column : tie.Need-mul-absorb-column
-mul-absorb-column c = omega (arith, entry (summed c) .pre .0 .wide-most)
-
 absorb-column-requires : tie.Need-absorb-column-requires
-absorb-column-requires c κs = (made-long (rows-made (summed (c .before))), omega arith)
+absorb-column-requires c κs = (made-long (c .before .before .before .before .before .before .before .before .before .before .before .before .before .before .before .before), omega arith)
 
 returns : tie.Need-returns
 returns c =
-    let z = (c .before .before) in
-    let x = summed z in
+    let x = c .before .before .before .before .before .before .before .before .before .before .before in
     let o = rows-made x in
     let a = entry x .args in
     let v = entry x .pre .0 in
     let q : a .shape .depth * 16 + 248 + 21 * a .shape .wide ≡ a .shape .depth * 16 + 32 + 216 + 21 * a .shape .wide = omega arith in (
       frame-opened v (a .front .now) (a .salt .now) (a .root .now) (a .e) (a .first .now) (a .second) (a .frame .now) (o .open-rows .ensures)
-          (sums-are x) (read x) q ((z .before .before .before .before .before .before) .copy-at .ensures),
+          (sums-are x) (read x) q (c .before .before .before .before .before .copy-at .ensures),
       part-opened v (a .front .now) (a .salt .now) (a .root .now) (a .e) (a .first .now) (a .second) (a .frame .now) (o .open-rows .ensures)
-          (sums-are x) (read x) (a .s) ((z .before) .absorb .ensures) (c .absorb-column .ensures),
+          (sums-are x) (read x) (a .s) (c .before .before .absorb .ensures) (c .absorb-column .ensures),
     )
 
 pub open-frame-spec : {M : Type 1} → statement M
 open-frame-spec =
     tie.close
-    (tie.spec (λ c κs. search needs) (λ c. search needs) (λ c. search needs) (λ c. search needs) (λ c. search needs) (λ c. search needs)
-    sum-rows-requires (λ c. search needs) (λ c. search needs) mul-q-2 add-q-2 (λ c. search needs) (λ c. search needs) part-copy-at-end
-    copy-at-requires (λ c. search needs) (λ c. search needs) part-absorb-end (λ c κs. search needs) mul-absorb-column absorb-column-requires
-    (λ c. search needs) (λ c. made-kept (rows-made (summed (c .before .before)))) returns)
+    (tie.spec
+    (λ c κs. c .before .before .before .before .before .before .before .before .pre)
+    (λ c. omega (arith, wide-most (c .before .before .before .before .before .before .before .before .before .before .before .before)))
+    (λ c. omega (arith, wide-most (c .before .before .before .before .before .before .before .before .before .before .before .before)))
+    (λ c. omega arith)
+    (λ c. omega arith)
+    (λ c. few (c .before .before .before .before .before .before .before .before .before .before .before .before .before))
+    sum-rows-requires
+    (λ c. omega arith)
+    (λ c. omega arith)
+    (λ c. room (c .before .before))
+    (λ c. omega (arith, c .before .before .before .before .before .before .before .before .before .before .before .before .before .before .before .before .before .before .before .pre .0 .shallow))
+    (λ c. omega (arith, c .before .before .before .before .before .before .before .before .before .before .before .before .before .before .before .before .before .before .before .pre .0 .shallow))
+    (λ c. let s = c .before .before .before .before .before .before .before .before .before .before .before .before .before .before .before .before .before .before .before in omega (arith, s .pre .0 .shallow, wide-most s))
+    copy-at-requires
+    (λ c κs. tt)
+    absorb-column-requires
+    (λ c. c .before .before .before .before .before .copy-at .kept .0)
+    (λ c. made-kept (c .before .before .before .before .before .before .before .before .before .before .before .before .before .before .before .before .before))
+    returns)

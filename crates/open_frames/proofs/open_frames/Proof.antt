@@ -4,7 +4,6 @@ use mathlib.Core.Path.{_≡_, refl, sym, ap, _∙_}
 use Prim.Native.Nat.{ℕ, _+_, _-_, _*_, _^_, _<_, _≤_}
 use native.Mathlib.Omega.{arith}
 use lib.ListN.{length}
-use borrow.Author.Needs.{needs}
 use Rattle.slices.specs.Lists.{rows as rowsOf}
 use Rattle.slices.specs.Bytes.{bytes-of}
 use Rattle.slices.specs.Numbers.{numberAt}
@@ -116,13 +115,33 @@ returns c =
 pub open-frames-spec : {M : Type 1} → statement M
 open-frames-spec =
     tie.close
-    (tie.spec Inv-loop μ-loop (λ c. search needs) (λ c. search needs) (λ c. search needs) (λ c. search needs)
-    (λ c. omega (arith, first-small ((c .before .before .before .before .before .before .before .before .before .before) .pre .0))) loop-holds
-    (λ c. omega (arith, few c)) (λ c. omega (arith, few c)) (λ c. omega (arith, first-most (s c .pre .0) (c .loop-test .taken)))
-    (λ c. omega (arith, first-most (s c .pre .0) (c .loop-test .taken))) (λ c. omega (arith, frame-most (s c .pre .0) (c .loop-test .taken)))
-    (λ c. omega (arith, frame-most (s c .pre .0) (c .loop-test .taken))) (λ c κs. (s c .pre .0, second-room c))
-    (λ c. omega (arith, few (c .before))) (λ c. search needs) (λ c. search needs) (λ c. root-room (c .before)) (λ c. search needs)
-    (λ c. search needs) (λ c. first-room (c .before .before)) (λ c. search needs) (λ c. search needs)
-    (λ c. frame-room (c .before .before .before)) open-frame-requires (λ c. search needs) (λ c. search needs) loop-again
+    (tie.spec Inv-loop μ-loop
+    (λ c. omega (arith, c .before .before .before .before .before .before .before .before .pre .0 .shallow))
+    (λ c. omega (arith, c .before .before .before .before .before .before .before .before .pre .0 .shallow))
+    (λ c. omega (arith, c .before .before .before .before .before .before .before .before .before .pre .0 .wide-most))
+    (λ c. let v = c .before .before .before .before .before .before .before .before .before .pre .0 in omega (arith, v .shallow, v .wide-most))
+    (λ c. omega (arith, first-small (c .before .before .before .before .before .before .before .before .before .before .pre .0)))
+    loop-holds
+    (λ c. omega (arith, few c))
+    (λ c. omega (arith, few c))
+    (λ c. omega (arith, first-most (s c .pre .0) (c .loop-test .taken)))
+    (λ c. omega (arith, first-most (s c .pre .0) (c .loop-test .taken)))
+    (λ c. omega (arith, frame-most (s c .pre .0) (c .loop-test .taken)))
+    (λ c. omega (arith, frame-most (s c .pre .0) (c .loop-test .taken)))
+    (λ c κs. (s c .pre .0, second-room c))
+    (λ c. omega (arith, few (c .before)))
+    (λ c. omega arith)
+    (λ c. omega arith)
+    (λ c. root-room (c .before))
+    (λ c. omega arith)
+    (λ c. omega arith)
+    (λ c. first-room (c .before .before))
+    (λ c. omega arith)
+    (λ c. omega arith)
+    (λ c. frame-room (c .before .before .before))
+    open-frame-requires
+    (λ c. omega (arith, few (c .before .before .before .before .before .before .before .before .before .before)))
+    (λ c. omega (arith, (c .before .before .before .before .before .before .before .before .before .before) .loop-test .taken))
+    loop-again
     (λ c. c .before .loop .inv .1 .done .long ∙ sym (frames-whole (start (c .before) .pre .0) (start (c .before) .pre .6)))
     (λ c. c .before .loop .inv .2 ∙ sym (start (c .before) .pre .7)) returns)

@@ -1,15 +1,14 @@
 -- `party_shares::party_row` meets its contract: the shares are written one after the other. Assumes nothing.
-use mathlib.Core.Path.{_≡_, refl, _∙_}
+use mathlib.Core.Path.{_≡_, refl, sym, _∙_}
 use mathlib.Core.List.{List}
-use Prim.Native.Nat.{ℕ, _+_, _*_}
-use native.Mathlib.Omega.{arith}
+use Prim.Native.Nat.{ℕ, _+_, _-_, _*_, _≤_, zero-le}
+use native.Mathlib.Nat.{le-refl}
 use lib.ListN.{length}
 use lib.Seq.{length-take-le}
 use borrow.Author.Needs.{needs}
 use borrow.Rule.Slice.PartMut.{putMid, same-len-mid}
 use Rattle.slices.specs.Numbers.{bytesOf, length-bytesOf}
-use Rattle.sets.specs.Bounds.{row-total}
-use Rattle.party_shares.proofs.Laws.{rest-long, row-is, put-row}
+use Rattle.party_shares.proofs.Laws.{rest-long, row-size, few-bytes, c-word, output-room, c-room, row-is, put-row}
 use Rattle.party_shares.proofs.party_row.Statement.{statement}
 use Rattle.party_shares.proofs.party_row.Tie as tie
 
@@ -31,10 +30,10 @@ output c = c .before .before .before .before .copy .last .0
 -- before c is stored, the output's share being in its place
 module _ (c : tie.After-store-arg) where
   size : length (lent c) ≡ 16 + wide c + 20 * wide c
-  size = omega (arith, start c .pre .2, row-total (start c .pre .0 .valid))
+  size = row-size (start c .pre .0 .valid) (start c .pre .2)
 
   copied : length (output c) ≡ 16
-  copied = c .before .before .before .before .copy .kept .0 ∙ length-take-le 16 (lent c) (omega (arith, size))
+  copied = c .before .before .before .before .copy .kept .0 ∙ length-take-le 16 (lent c) (output-room (start c .pre .0 .valid) size)
 
   room : length (putMid 0 16 (lent c) (output c)) ≡ length (lent c)
   room = same-len-mid 0 16 (lent c) (output c) (c .before .before .before .before .copy .kept .0)
@@ -47,17 +46,27 @@ module _ (c : tie.After-store) where
   long : length (c .store .last .0) ≡ 16 + wide (c .before) + 20 * wide (c .before)
   long = same ∙ size (c .before)
 
+  at-fits : 16 + wide (c .before) ≤ length (c .store .last .0)
+  at-fits = c-room (start (c .before) .pre .0 .valid) long
+
+walk-requires : tie.Need-walk-requires
+walk-requires c κs =
+    let s = c .before .before .before .before .before .before .before .before .before .before .before in
+    let g = s .pre .0 in (g .valid, g .front-size, g .key-size, g .inverses-size, s .pre .1, refl, refl)
+
+copy-fits : tie.Need-part-copy-end
+copy-fits c =
+    let s = c .before .before .before .before .before .before .before .before .before .before .before .before .before .before in
+    let v = s .pre .0 .valid in output-room v (row-size v (s .pre .2))
+
+opened-c-requires : tie.Need-opened-c-requires
+opened-c-requires c κs =
+    let w = c .before .before .before .before .before .before .before in
+    let s = w .before .before .before .before .before .before .before .before .before .before .before .before in
+    let g = s .pre .0 in (g .valid, g .products-size, s .pre .1, g .far-size)
+
 store-requires : tie.Need-store-requires
-store-requires c κs = (omega (arith, start c .pre .0 .valid .wide-most), omega (arith, size c, room c))
-
-add-at : tie.Need-add-at
-add-at c = omega (arith, start (c .before .before .before .before) .pre .0 .valid .wide-most)
-
-sub-opened-row : tie.Need-sub-opened-row
-sub-opened-row c = omega (arith, long (c .before .before .before .before .before))
-
-part-opened-row-start : tie.Need-part-opened-row-start
-part-opened-row-start c = omega (arith, long (c .before .before .before .before .before))
+store-requires c κs = (few-bytes (start c .pre .0 .valid), c-room (start c .pre .0 .valid) (room c ∙ size c))
 
 opened-row-requires : tie.Need-opened-row-requires
 opened-row-requires c κs =
@@ -95,9 +104,21 @@ returns c =
     (a .tables .now) (a .last) (a .i) (a .tape .now) (y .copy .ensures ∙ w .walk .ensures .0) (w .walk .ensures .1 .0) (w .walk .ensures .1 .1)
     (o .opened-c .ensures) (r .opened-row .ensures)
 
+same-length : tie.Need-same-length
+same-length c =
+    let r = c .before .before in
+    let k = r .before .before .before .before .before .before .before in
+    let l = k .store .last .0 in
+    let at = 16 + wide (k .before) in
+    same-len-mid at (length l - at) l (r .opened-row .last .1 .1 .1 .1 .1 .1 .1 .0) (r .opened-row .kept .1 .1 .1 .1 .1 .1 .1 .0) ∙ same k
+
 pub party-row-spec : {M : Type 1} → statement M
 party-row-spec =
     tie.close
-    (tie.spec (λ c. search needs) (λ c. search needs) (λ c κs. search needs) (λ c. search needs) (λ c. search needs)
-    (λ c. search needs) (λ c. search needs) (λ c κs. search needs) (λ c κs. search needs) store-requires add-at (λ c. search needs)
-    (λ c. search needs) sub-opened-row part-opened-row-start (λ c. search needs) opened-row-requires (λ c. search needs) returns)
+    (tie.spec (λ c. refl) (λ c. refl) walk-requires (λ c. zero-le) (λ c. zero-le)
+    copy-fits (λ c. search needs) (λ c κs. search needs)
+    opened-c-requires store-requires (λ c. c-word (start (c .before .before .before .before) .pre .0 .valid))
+    (λ c. sym (walked (c .before .before .before .before .before) .walk .kept .1 .1 .1 .1 .1 .1 .1 .0))
+    (λ c. sym (walked (c .before .before .before .before .before .before) .walk .kept .1 .1 .1 .1 .1 .1 .0))
+    (λ c. at-fits (c .before .before .before .before .before)) (λ c. at-fits (c .before .before .before .before .before)) (λ c. le-refl _)
+    opened-row-requires same-length returns)

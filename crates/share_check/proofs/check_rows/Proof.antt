@@ -1,6 +1,10 @@
 -- `share_check::check_rows` meets its contract: the halves are read back and compared, and left as they are. Assumes nothing.
+use Prim.Native.Nat.{zero-le}
+use native.Mathlib.Omega.{arith}
+use lib.Dec.{lit≤}
 use borrow.Author.Needs.{needs}
-use Rattle.share_check.proofs.Rows.{read-lengths, halves-checked}
+use Rattle.share_check.proofs.Halves.{half-le}
+use Rattle.share_check.proofs.Rows.{key-size, read-lengths, halves-checked}
 use Rattle.share_check.proofs.check_rows.Statement.{statement}
 use Rattle.share_check.proofs.check_rows.Tie as tie
 
@@ -26,5 +30,5 @@ returns c =
 pub check-rows-spec : {M : Type 1} → statement M
 check-rows-spec =
     tie.close
-    (tie.spec (λ c κs. search needs) (λ c. search needs) (λ c. search needs) (λ c. search needs) (λ c. search needs) (λ c. search needs)
-    (λ c. search needs) (λ c. search needs) (λ c. search needs) (λ c. search needs) compare-rows-requires (λ c. search needs) returns)
+    (tie.spec (λ c κs. (c .before .before .before .before .before) .pre) (λ c. lit≤ tt) (λ c. lit≤ tt) (λ c. omega (arith, key-size ((c .before .before .before .before .before .before .before .before) .pre .0))) (λ c. half-le _) (λ c. half-le _)
+    (λ c. search needs) (λ c. zero-le) (λ c. zero-le) (λ c. half-le _) compare-rows-requires (λ c. search needs) returns)

@@ -1,6 +1,6 @@
 -- `share_check::compare_rows` meets its contract: the lowest row that differs, or else the sums. Assumes nothing.
 use mathlib.Core.Path.{sym, ap, _∙_}
-use Prim.Native.Nat.{_*_}
+use Prim.Native.Nat.{_*_, zero-le}
 use native.Mathlib.Omega.{arith}
 use borrow.Author.Needs.{needs}
 use Rattle.sets.specs.Bounds.{row-most}
@@ -43,5 +43,5 @@ returns-2 c =
 pub compare-rows-spec : {M : Type 1} → statement M
 compare-rows-spec =
     tie.close
-    (tie.spec (λ c κs. search needs) first-difference-requires (λ c. search needs) returns (λ c. search needs) (λ c. search needs) part-sums-end
-    (λ c κs. search needs) returns-2)
+    (tie.spec (λ c κs. (c .before .before .before) .pre .0) first-difference-requires (λ c. omega (arith, c .if1 .taken, (c .before .before .before .before .before .before .before) .pre .0 .few)) returns (λ c. zero-le)
+    (λ c. zero-le) part-sums-end (λ c κs. search needs) returns-2)

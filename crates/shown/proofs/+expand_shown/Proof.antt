@@ -1,10 +1,15 @@
 -- `shown::expand_shown` meets its contract; the depth falls. Each half of the output is lent to a call. Assumes nothing.
-use mathlib.Core.Path.{_∙_}
-use Prim.Native.Nat.{ℕ, _-_, _/_, _<_}
+use mathlib.Core.Path.{_≡_, sym, _∙_}
+use mathlib.Core.List.{List}
+use Prim.Native.Nat.{ℕ, _+_, _-_, _*_, _/_, _<_, _≤_, zero-le}
+use native.Mathlib.Nat.{le-refl, le-of-eq, pos-of-ne-zero}
 use native.Mathlib.Omega.{arith}
-use lib.ListN.{length}
+use lib.ListN.{length, take}
 use lib.Seq.{length-take-le}
+use mir.Syntax.{w64}
+use mir.Val.{Fits}
 use borrow.Author.Needs.{needs}
+use borrow.Rule.Slice.PartMut.{putMid, same-len-mid}
 use borrow.Fn.Kinds.{In}
 use borrow.Fn.PlainCycle.{Measures, is, falls, and}
 use Rattle.nodes.proofs.Halves.{Halved, halved, join}
@@ -27,62 +32,123 @@ expand-shown-at t = and 3 expand-shown-kinds.ps (is 3 expand-shown-kinds.ps μ-e
 abbrev expand-shown-below : ℕ → In 3 expand-shown-kinds.ps
 expand-shown-below t = and 3 expand-shown-kinds.ps (falls 3 expand-shown-kinds.ps _<_ μ-expand-shown t) expand-shown.Pre
 
--- where the depth is not 0
-module _ (t : ℕ)
-    (c : expand-shown-lts.Else1
-    (zero-reads.Asked, zero-reads.Learnt, expand-shown-below t, expand-shown.Post, expand-reads.Asked, expand-reads.Learnt) (expand-shown-at t)
-    expand-shown.Post) where
-  below : Halved (c .before .before .before .before .args .node) (c .before .before .before .before .args .depth)
-  below = halved _ _ (omega (arith, c .if1 .left)) (c .before .before .before .before .pre .1 .3)
+abbrev claims : ℕ → expand-shown-lts.Claims
+claims t = (zero-reads.Asked, zero-reads.Learnt, expand-shown-below t, expand-shown.Post, expand-reads.Asked, expand-reads.Learnt)
+
+-- ---- counts
+
+double-fits : {v : ℕ} → v ≤ 254 → Fits w64 (2 * v)
+double-fits h = omega (arith, h)
+
+left-fits : {v : ℕ} → v ≤ 254 → Fits w64 (2 * v + 1)
+left-fits h = omega (arith, h)
+
+right-fits : {v : ℕ} → v ≤ 254 → Fits w64 (2 * v + 2)
+right-fits h = omega (arith, h)
+
+half-most : (n : ℕ) → n / 2 ≤ n
+half-most n = omega arith
+
+one-seed : {n d : ℕ} → n ≡ d * 16 → 1 ≤ d → 16 ≤ n
+one-seed e h = omega (arith, e, h)
+
+falling : {d t : ℕ} → d ≡ t → 1 ≤ d → d - 1 < t
+falling e h = omega (arith, e, h)
+
+-- ---- where the depth is not 0
+
+module _ (t : ℕ) (c : expand-shown-lts.Else1 (claims t) (expand-shown-at t) expand-shown.Post) where
+  abbrev start : expand-shown-lts.Start (claims t) (expand-shown-at t) expand-shown.Post
+  start = c .before .before .before .before
+
+  below : Halved (start .args .node) (start .args .depth)
+  below = halved _ _ (pos-of-ne-zero (c .if1 .left)) (start .pre .1 .3)
+
+  -- the first of the siblings' seeds
+  seed : 16 ≤ length (start .args .seeds .now)
+  seed = one-seed (start .pre .1 .1) (below .deep)
+
+  seed-long : length (take 16 (start .args .seeds .now)) ≡ 16
+  seed-long = length-take-le 16 (start .args .seeds .now) seed
+
+  half : length (start .args .out .now) / 2 ≤ length (start .args .out .now)
+  half = half-most (length (start .args .out .now))
+
+  -- the output, of which the first half came back as y
+  whole : (y : List ℕ) → length y ≡ length (take (length (start .args .out .now) / 2 - 0) (start .args .out .now))
+      → length (start .args .out .now) ≤ length (putMid 0 (length (start .args .out .now) / 2 - 0) (start .args .out .now) y)
+  whole y kept = le-of-eq (sym (same-len-mid 0 (length (start .args .out .now) / 2 - 0) (start .args .out .now) y kept))
 
 pub +expand-shown-spec : {M : Type 1} → statement M
 +expand-shown-spec =
-    close μ-expand-shown λ t. expand-shown-lts.spec
-    (zero-reads.Asked, zero-reads.Learnt, expand-shown-below t, expand-shown.Post, expand-reads.Asked, expand-reads.Learnt)
-    (expand-shown-at t) expand-shown.Post
-    (λ c κs. search needs)
-    (λ c. omega (arith, below t (c .before))) (λ c. omega (arith, below t (c .before))) (λ c. omega (arith, below t (c .before)))
-    (λ c. search needs) (λ c. search needs) (λ c. search needs) (λ c. search needs) (λ c. search needs) (λ c. search needs)
+    close μ-expand-shown λ t. expand-shown-lts.spec (claims t) (expand-shown-at t) expand-shown.Post
+    (λ c κs. tt)
+    (λ c. below t (c .before) .deep)
+    (λ c. double-fits (below t (c .before) .small))
+    (λ c. left-fits (below t (c .before) .small))
+    (λ c. seed t (c .before))
+    (λ c. seed t (c .before))
+    (λ c. le-refl _)
+    (λ c. zero-le)
+    (λ c. zero-le)
+    (λ c. half t (c .before .before))
     (λ c κs.
     let k = c .before .before .before in
-    let s = k .before .before .before .before in
+    let s = start t k in
     let b = below t k in (
-      omega (arith, s .pre .0, b .deep),
+      falling (s .pre .0) (b .deep),
       (s .pre .1 .0, seeds-long _ (s .args .seeds .now) (s .pre .1 .1), first-half b (s .args .out .now) (s .pre .1 .2), b .left),
     ))
-    (λ c. omega (arith, below t (c .before .before .before .before .before .before)))
-    (λ c. omega (arith, below t (c .before .before .before .before .before .before)))
-    (λ c. omega (arith, below t (c .before .before .before .before .before .before)))
-    (λ c. search needs) (λ c. search needs) (λ c. search needs) (λ c. search needs) (λ c. search needs) (λ c. search needs)
+    (λ c. below t (c .before .before .before .before .before .before) .deep)
+    (λ c. double-fits (below t (c .before .before .before .before .before .before) .small))
+    (λ c. right-fits (below t (c .before .before .before .before .before .before) .small))
+    (λ c. zero-le)
+    (λ c. zero-le)
+    (λ c. seed t (c .before .before .before .before .before .before))
+    (λ c. half t (c .before .before .before .before .before .before .before))
+    (λ c. half t (c .before .before .before .before .before .before .before))
+    (λ c.
+    let first = c .before .before .before .expand-shown in
+    whole t (c .before .before .before .before .before .before .before) (first .last .1 .1 .1 .1 .1 .1 .0) (first .kept .1 .1 .1 .1 .1 .1 .0))
     (λ c κs.
     let first = c .before .before .before .before .expand-shown in
     let k = c .before .before .before .before .before .before .before .before in
-    let s = k .before .before .before .before in
+    let s = start t k in
     let b = below t k in
     let room = second-half b (s .args .out .now) (s .pre .1 .2) (first .last .1 .1 .1 .1 .1 .1 .0) (first .kept .1 .1 .1 .1 .1 .1 .0) in
-    (s .pre .1 .0, length-take-le 16 (s .args .seeds .now) (omega (arith, s .pre .1 .1, b .deep)), room, b .right))
-    (λ c. omega (arith, below t (c .before))) (λ c. omega (arith, below t (c .before))) (λ c. omega (arith, below t (c .before)))
-    (λ c. search needs) (λ c. search needs) (λ c. search needs) (λ c. search needs) (λ c. search needs) (λ c. search needs)
+    (s .pre .1 .0, seed-long t k, room, b .right))
+    (λ c. below t (c .before) .deep)
+    (λ c. double-fits (below t (c .before) .small))
+    (λ c. left-fits (below t (c .before) .small))
+    (λ c. zero-le)
+    (λ c. zero-le)
+    (λ c. seed t (c .before))
+    (λ c. zero-le)
+    (λ c. zero-le)
+    (λ c. half t (c .before .before))
     (λ c κs.
     let k = c .before .before .before in
-    let s = k .before .before .before .before in
-    let b = below t k in (
-      s .pre .1 .0,
-      length-take-le 16 (s .args .seeds .now) (omega (arith, s .pre .1 .1, b .deep)),
-      first-half b (s .args .out .now) (s .pre .1 .2),
-      b .left,
-    ))
-    (λ c. omega (arith, below t (c .before .before .before .before .before .before)))
-    (λ c. omega (arith, below t (c .before .before .before .before .before .before)))
-    (λ c. omega (arith, below t (c .before .before .before .before .before .before)))
-    (λ c. search needs) (λ c. search needs) (λ c. search needs) (λ c. search needs) (λ c. search needs) (λ c. search needs)
+    let s = start t k in
+    let b = below t k in
+    (s .pre .1 .0, seed-long t k, first-half b (s .args .out .now) (s .pre .1 .2), b .left))
+    (λ c. below t (c .before .before .before .before .before .before) .deep)
+    (λ c. double-fits (below t (c .before .before .before .before .before .before) .small))
+    (λ c. right-fits (below t (c .before .before .before .before .before .before) .small))
+    (λ c. seed t (c .before .before .before .before .before .before))
+    (λ c. seed t (c .before .before .before .before .before .before))
+    (λ c. le-refl _)
+    (λ c. half t (c .before .before .before .before .before .before .before))
+    (λ c. half t (c .before .before .before .before .before .before .before))
+    (λ c.
+    let first = c .before .before .before .expand2 in
+    whole t (c .before .before .before .before .before .before .before) (first .last .1 .1 .1 .1 .1 .0) (first .kept .1 .1 .1 .1 .1 .0))
     (λ c κs.
     let first = c .before .before .before .before .expand2 in
     let k = c .before .before .before .before .before .before .before .before in
-    let s = k .before .before .before .before in
+    let s = start t k in
     let b = below t k in
     let room = second-half b (s .args .out .now) (s .pre .1 .2) (first .last .1 .1 .1 .1 .1 .0) (first .kept .1 .1 .1 .1 .1 .0) in
-    (omega (arith, s .pre .0, b .deep), (s .pre .1 .0, seeds-long _ (s .args .seeds .now) (s .pre .1 .1), room, b .right)))
+    (falling (s .pre .0) (b .deep), (s .pre .1 .0, seeds-long _ (s .args .seeds .now) (s .pre .1 .1), room, b .right)))
     (λ c. search needs)
     (λ c.
     let tested = c .before .before .before .before in
@@ -93,10 +159,10 @@ pub +expand-shown-spec : {M : Type 1} → statement M
     let first = c .before .before .before .before .before .before .before .expand-shown in
     let tested = c .before .before .before .before .before .before .before .before .before .before in
     let k = tested .before in
-    let s = k .before .before .before .before in
+    let s = start t k in
     let a = s .args in
     let d = a .out .now in
-    join d (first .last .1 .1 .1 .1 .1 .1 .0) (length d / 2) (omega arith) (first .kept .1 .1 .1 .1 .1 .1 .0) (second .last .1 .1 .1 .1 .1 .0)
+    join d (first .last .1 .1 .1 .1 .1 .1 .0) (length d / 2) (half t k) (first .kept .1 .1 .1 .1 .1 .1 .0) (second .last .1 .1 .1 .1 .1 .0)
     ∙ shown-left (a .salt .now) (a .e) (a .node) (a .seeds .now) (a .hidden) (a .depth) (below t k .deep) (middle (below t k) d (s .pre .1 .2))
     (tested .if2 .taken) (first .ensures) (second .ensures))
     (λ c. search needs)
@@ -105,9 +171,9 @@ pub +expand-shown-spec : {M : Type 1} → statement M
     let first = c .before .before .before .before .before .before .before .expand2 in
     let tested = c .before .before .before .before .before .before .before .before .before .before in
     let k = tested .before in
-    let s = k .before .before .before .before in
+    let s = start t k in
     let a = s .args in
     let d = a .out .now in
-    join d (first .last .1 .1 .1 .1 .1 .0) (length d / 2) (omega arith) (first .kept .1 .1 .1 .1 .1 .0) (second .last .1 .1 .1 .1 .1 .1 .0)
+    join d (first .last .1 .1 .1 .1 .1 .0) (length d / 2) (half t k) (first .kept .1 .1 .1 .1 .1 .0) (second .last .1 .1 .1 .1 .1 .1 .0)
     ∙ shown-right (a .salt .now) (a .e) (a .node) (a .seeds .now) (a .hidden) (a .depth) (below t k .deep) (middle (below t k) d (s .pre .1 .2))
     (tested .if2 .left) (first .ensures) (second .ensures))

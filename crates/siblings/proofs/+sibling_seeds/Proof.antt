@@ -1,21 +1,21 @@
 -- `siblings::sibling_seeds` meets its contract; the depth falls. A seed is copied, and the rest of the output lent to a call. Assumes nothing.
 use mathlib.Core.Path.{_≡_, _∙_}
+use mathlib.Core.Logic.{⊎-elim}
 use mathlib.Core.List.{List}
 use Prim.Native.Nat.{ℕ, _-_, _*_, _<_, _≤_}
 use native.Mathlib.Omega.{arith}
 use lib.ListN.{length, take, drop}
-use lib.Seq.{length-take-le}
 use borrow.Author.Needs.{needs}
-use borrow.Rule.Slice.PartMut.{putMid}
 use borrow.Fn.Kinds.{In}
 use borrow.Fn.PlainCycle.{Measures, is, falls, and}
-use Rattle.nodes.proofs.Halves.{Halved, halved, both-long, rest-long, join}
-use Rattle.siblings.proofs.Siblings.{shift-lt, shift-is, siblings-none, siblings-left, siblings-right}
+use Rattle.slices.proofs.Put.{Wrote, lent-long}
+use Rattle.nodes.proofs.Halves.{Halved, halved}
+use Rattle.siblings.proofs.Siblings.{shift-lt, shift-is, Step, step-left, step-right, seedAt, first, both, siblings-none}
 use Rattle.siblings.proofs.sibling_seeds.Reads as sibling-seeds
 use Rattle.siblings.proofs.sibling_seeds.Kinds as sibling-seeds-kinds
 use Rattle.siblings.proofs.+sibling_seeds.Lts-sibling_seeds as sibling-seeds-lts
 use Rattle.nodes.proofs.children.Reads as children-reads
-use Rattle.slices.proofs.copy.Reads as copy-reads
+use Rattle.slices.proofs.copy_at.Reads as copy-at-reads
 use Rattle.siblings.proofs.+sibling_seeds.{statement}
 use Rattle.siblings.proofs.+sibling_seeds.Tie.{close}
 
@@ -28,90 +28,91 @@ sibling-seeds-at t = and 3 sibling-seeds-kinds.ps (is 3 sibling-seeds-kinds.ps �
 abbrev sibling-seeds-below : ℕ → In 3 sibling-seeds-kinds.ps
 sibling-seeds-below t = and 3 sibling-seeds-kinds.ps (falls 3 sibling-seeds-kinds.ps _<_ μ-sibling-seeds t) sibling-seeds.Pre
 
+abbrev claims : ℕ → sibling-seeds-lts.Claims
+claims t = (children-reads.Asked, children-reads.Learnt, copy-at-reads.Asked, copy-at-reads.Learnt, sibling-seeds-below t, sibling-seeds.Post)
+
 -- where the depth is not 0
-module _ (t : ℕ)
-    (c : sibling-seeds-lts.After-children
-    (children-reads.Asked, children-reads.Learnt, copy-reads.Asked, copy-reads.Learnt, sibling-seeds-below t, sibling-seeds.Post) (sibling-seeds-at t)
-    sibling-seeds.Post) where
-  abbrev depth : ℕ
-  depth = c .before .before .before .before .before .args .depth
+module _ (t : ℕ) (c : sibling-seeds-lts.After-children (claims t) (sibling-seeds-at t) sibling-seeds.Post) where
+  abbrev start : sibling-seeds-lts.Start (claims t) (sibling-seeds-at t) sibling-seeds.Post
+  start = c .before .before .before .before .before
 
   abbrev out : List ℕ
-  out = c .before .before .before .before .before .args .out .now
+  out = start .args .out .now
 
-  size : length out ≡ depth * 16
-  size = c .before .before .before .before .before .pre .1 .2
+  size : length out ≡ start .args .depth * 16
+  size = start .pre .1 .2
 
-  below : Halved (c .before .before .before .before .before .args .node) depth
-  below = halved _ _ (omega (arith, c .before .if1 .taken)) (c .before .before .before .before .before .pre .1 .3)
+  below : Halved (start .args .node) (start .args .depth)
+  below = halved _ _ (omega (arith, c .before .if1 .taken)) (start .pre .1 .3)
 
-  -- room for the first seed, and for the others
+  -- room for the first seed
   room : 16 ≤ length out
   room = omega (arith, size, below .deep)
 
-  others : (y : List ℕ) → length y ≡ length (take 16 out) → length (take (length out - 16) (drop 16 (putMid 0 16 out y))) ≡ (depth - 1) * 16
-  others y kept = rest-long out y 16 room kept ∙ omega (arith, size)
+-- where the way is chosen
+module _ (t : ℕ) (c : sibling-seeds-lts.Joined2 (claims t) (sibling-seeds-at t) sibling-seeds.Post) where
+  abbrev pair : List ℕ
+  pair = c .before .children .result
 
-  -- both seeds
-  long : (length (take 16 (c .children .result)) ≡ 16) × (length (take 16 (drop 16 (c .children .result))) ≡ 16)
-  long = both-long _ _ _ _ (c .children .ensures)
+  step : let a = start t (c .before) .args in
+      Step (a .salt .now) (a .e) (a .node) (a .seed .now) pair (a .hidden) (a .depth) (c .if2 .child) (c .if2 .leaf) (c .if2 .own)
+  step =
+      let a = start t (c .before) .args in
+      let b = below t (c .before) in
+      let e = c .before .children .ensures in
+      ⊎-elim
+      (λ w. step-right (a .salt .now) (a .e) (a .node) (a .seed .now) e (a .hidden) b (shift-is b) (w .0 .taken) (w .1) (w .2) (w .3))
+      (λ w. step-left (a .salt .now) (a .e) (a .node) (a .seed .now) e (a .hidden) b (shift-is b) (w .0 .left) (w .1) (w .2) (w .3)) (c .if2 .came)
+
+-- where the sibling's seed is written
+module _ (t : ℕ) (c : sibling-seeds-lts.After-copy-at (claims t) (sibling-seeds-at t) sibling-seeds.Post) where
+  abbrev way : sibling-seeds-lts.Joined2 (claims t) (sibling-seeds-at t) sibling-seeds.Post
+  way = c .before .before .before .before .before
+
+  wrote : Wrote (out t (way .before)) (seedAt (16 - way .if2 .own) (pair t way)) 16 (c .copy-at .last .0)
+  wrote = first _ (step t way .other) (c .copy-at .ensures) (c .copy-at .kept .0)
+
+  others : length (take (length (out t (way .before)) - 16) (drop 16 (c .copy-at .last .0))) ≡ (start t (way .before) .args .depth - 1) * 16
+  others = lent-long (length (out t (way .before))) wrote (omega arith) ∙ omega (arith, size t (way .before))
 
 pub +sibling-seeds-spec : {M : Type 1} → statement M
 +sibling-seeds-spec =
-    close μ-sibling-seeds λ t. sibling-seeds-lts.spec
-    (children-reads.Asked, children-reads.Learnt, copy-reads.Asked, copy-reads.Learnt, sibling-seeds-below t, sibling-seeds.Post)
-    (sibling-seeds-at t) sibling-seeds.Post
-    (λ c κs. search needs) (λ c. omega (arith, below t c)) (λ c. shift-lt (below t c))
-    (λ c. search needs) (λ c. search needs) (λ c. omega (arith, room t (c .before))) (λ c. search needs) (λ c. search needs) (λ c. search needs)
-    (λ c κs. let k = c .before .before .before .before in omega (arith, length-take-le 16 (out t k) (room t k), long t k))
-    (λ c. omega (arith, below t (c .before .before .before .before .before .before .before)))
-    (λ c. omega (arith, below t (c .before .before .before .before .before .before .before)))
-    (λ c. omega (arith, below t (c .before .before .before .before .before .before .before)))
-    (λ c. search needs) (λ c. search needs) (λ c. search needs)
-    (λ c. omega (arith, room t (c .before .before .before .before .before .before .before .before .before)))
-    (λ c. let l = room t (c .before .before .before .before .before .before .before .before .before) in search needs)
-    (λ c. let l = room t (c .before .before .before .before .before .before .before .before .before) in search needs)
+    close μ-sibling-seeds λ t. sibling-seeds-lts.spec (claims t) (sibling-seeds-at t) sibling-seeds.Post
+    (λ c κs. search needs)
+    (λ c. omega (arith, below t c))
+    (λ c. shift-lt (below t c))
+    (λ c. omega (arith, below t c))
+    (λ c. omega (arith, below t c))
+    (λ c. omega (arith, below t (c .before)))
+    (λ c. search needs)
+    (λ c. omega (arith, step t (c .before) .place))
+    (λ c. search needs)
+    (λ c. search needs)
+    (λ c. search needs)
+    (λ c. search needs)
     (λ c κs.
-    let copied = c .before .before .before .before .before .copy in
-    let k = c .before .before .before .before .before .before .before .before .before .before in
-    let s = k .before .before .before .before .before in (
-      omega (arith, s .pre .0, below t k .deep),
-      (s .pre .1 .0, omega (arith, long t k), others t k (copied .last .0) (copied .kept .0), below t k .left),
-    ))
-    (λ c. search needs) (λ c. search needs) (λ c. omega (arith, room t (c .before))) (λ c. search needs) (λ c. search needs) (λ c. search needs)
-    (λ c κs. let k = c .before .before .before .before in omega (arith, length-take-le 16 (out t k) (room t k), long t k))
-    (λ c. omega (arith, below t (c .before .before .before .before .before .before .before)))
-    (λ c. omega (arith, below t (c .before .before .before .before .before .before .before)))
-    (λ c. omega (arith, below t (c .before .before .before .before .before .before .before)))
-    (λ c. search needs) (λ c. search needs) (λ c. search needs)
-    (λ c. omega (arith, room t (c .before .before .before .before .before .before .before .before .before)))
-    (λ c. let l = room t (c .before .before .before .before .before .before .before .before .before) in search needs)
-    (λ c. let l = room t (c .before .before .before .before .before .before .before .before .before) in search needs)
+    let k = c .before .before .before .before in
+    omega (arith, step t k .other, room t (k .before)))
+    (λ c. omega (arith, below t (c .before .before .before .before .before .before .before .before)))
+    (λ c. omega (arith, step t (c .before .before .before .before .before .before .before) .place))
+    (λ c. search needs)
+    (λ c. search needs)
+    (λ c. omega (arith, step t (c .before .before .before .before .before .before .before .before) .place))
+    (λ c. omega (arith, room t (c .before .before .before .before .before .before .before .before .before .before)))
+    (λ c. search needs)
+    (λ c. omega (arith, c .before .before .before .before .copy-at .kept .0))
     (λ c κs.
-    let copied = c .before .before .before .before .before .copy2 in
-    let k = c .before .before .before .before .before .before .before .before .before .before in
-    let s = k .before .before .before .before .before in (
-      omega (arith, s .pre .0, below t k .deep),
-      (s .pre .1 .0, omega (arith, long t k), others t k (copied .last .0) (copied .kept .0), below t k .right),
+    let w = c .before .before .before .before .before in
+    let k = way t w in
+    let s = start t (k .before) in (
+      omega (arith, s .pre .0, below t (k .before) .deep),
+      (s .pre .1 .0, step t k .own, others t w, step t k .fits),
     ))
     (λ c. search needs)
     (λ c.
     let call = c .before .before .sibling-seeds in
-    let copied = c .before .before .before .before .before .before .before .before .copy in
-    let tested = c .before .before .before .before .before .before .before .before .before .before .before .before in
-    let k = tested .before in
-    let a = k .before .before .before .before .before .args in
-    join (out t k) (copied .last .0) 16 (room t k) (copied .kept .0) (call .last .1 .1 .1 .1 .1 .1 .0)
-    ∙ siblings-left (a .salt .now) (a .e) (a .node) (a .seed .now) (k .children .ensures) (a .hidden) (a .depth) (below t k .deep)
-    (shift-is (below t k)) (tested .if2 .taken) (copied .ensures) (call .ensures))
-    (λ c. search needs)
-    (λ c.
-    let call = c .before .before .sibling-seeds2 in
-    let copied = c .before .before .before .before .before .before .before .before .copy2 in
-    let tested = c .before .before .before .before .before .before .before .before .before .before .before .before in
-    let k = tested .before in
-    let a = k .before .before .before .before .before .args in
-    join (out t k) (copied .last .0) 16 (room t k) (copied .kept .0) (call .last .1 .1 .1 .1 .1 .1 .0)
-    ∙ siblings-right (a .salt .now) (a .e) (a .node) (a .seed .now) (k .children .ensures) (a .hidden) (a .depth) (below t k .deep)
-    (shift-is (below t k)) (tested .if2 .left) (copied .ensures) (call .ensures))
+    let w = c .before .before .before .before .before .before .before .before in
+    let k = way t w in
+    both _ _ (wrote t w) (room t (k .before)) (call .kept .1 .1 .1 .1 .1 .1 .0)
+    ∙ step t k .joined (call .ensures))
     (λ c. let s = c .before .before .before .before in siblings-none _ _ _ _ _ _ (s .args .out .now) (omega (arith, c .if1 .left)) (s .pre .1 .2))

@@ -1,9 +1,8 @@
 -- `sign_message::sign_key` meets its contract: the key is tested, and else the signature is made. Assumes nothing.
-use mathlib.Core.Path.{_≡_, ap, _∙_}
+use mathlib.Core.Path.{_≡_, sym, ap, subst, _∙_}
 use mathlib.Core.List.{map}
-use Prim.Native.Nat.{_-_}
-use native.Mathlib.Omega.{arith}
-use lib.ListN.{length, take}
+use Prim.Native.Nat.{ℕ, _-_, _≤_, zero-le}
+use lib.ListN.{length, take, length-replicate}
 use borrow.Author.Needs.{needs}
 use Rattle.slices.proofs.Put.{front-long}
 use Rattle.scratch.proofs.Laws.{front-output}
@@ -16,6 +15,14 @@ use Rattle.sign_message.proofs.sign_key.Tie as tie
 abbrev start : tie.After-check-key → tie.Start
 start k = (k .before .before .before .before .before .before .before .before .before)
 
+inputs-long : (k : tie.After-check-key) → length (k .check-key .last .1 .1 .1 .0) ≡ 200
+inputs-long k = k .check-key .kept .1 .1 .1 .0 ∙ length-replicate {A = ℕ} 200 0
+
+check-key-requires : tie.Need-check-key-requires
+check-key-requires c κs =
+    let p = c .before .before .before .before .before .before .before .before .pre in
+    (p .0 .valid, p .0 .key-size, p .0 .public-size, length-replicate {A = ℕ} 200 0)
+
 returns : tie.Need-returns
 returns c =
     let k = (c .before .before) in
@@ -26,12 +33,15 @@ returns c =
     (k .check-key .ensures .0) (c .match .keys2)
 
 -- the output's front has a signature's length
-out-long : (z : tie.After-signature-length)
-    → length (take (z .signature-length .result - 0) (start (z .before .before .before .before .before .before .before) .args .out .now))
-    ≡ z .signature-length .result
-out-long z =
-    let s = start (z .before .before .before .before .before .before .before) in
-    front-long (z .signature-length .result) (s .args .out .now) (omega (arith, z .signature-length .ensures, s .pre .1))
+module _ (z : tie.After-signature-length) where
+  abbrev entry : tie.Start
+  entry = start (z .before .before .before .before .before .before .before)
+
+  room : z .signature-length .result ≤ length (entry .args .out .now)
+  room = subst (_≤ length (entry .args .out .now)) (sym (z .signature-length .ensures)) (entry .pre .1)
+
+  out-long : length (take (z .signature-length .result - 0) (entry .args .out .now)) ≡ z .signature-length .result
+  out-long = front-long (z .signature-length .result) (entry .args .out .now) room
 
 make-requires : tie.Need-make-requires
 make-requires c κs =
@@ -54,6 +64,10 @@ make-requires c κs =
       p .2,
     )
 
+work-long : (m : tie.After-make)
+    → length (m .make .last .1 .1 .1 .1 .1 .1 .1 .1 .1 .0) ≡ length (entry (m .before .before .before .before .before) .args .work .now)
+work-long m = m .make .kept .1 .1 .1 .1 .1 .1 .1 .1 .1 .0
+
 returns-2 : tie.Need-returns-2
 returns-2 c =
     let x = (c .before .before) in
@@ -73,21 +87,16 @@ returns-2 c =
 pub sign-key-spec : {M : Type 1} → statement M
 sign-key-spec =
     tie.close
-    (tie.spec
-    (λ c. search needs)
-    (λ c κs. search needs)
-    (λ c. search needs)
-    returns
-    (λ c. search needs)
-    (λ c κs. search needs)
-    (λ c κs. search needs)
-    (λ c. search needs)
-    (λ c. search needs)
-    (λ c. search needs)
-    (λ c. search needs)
-    (λ c. search needs)
-    make-requires
-    (λ c κs. search needs)
-    (λ c. search needs)
-    (λ c. search needs)
+    (tie.spec (λ c. sym (length-replicate {A = ℕ} 200 0)) check-key-requires (λ c. c .match .keys1) returns
+    (λ c. sym (inputs-long (c .before .before .before .before))) (λ c κs. tt)
+    (λ c κs. start (c .before .before .before .before .before .before) .pre .0 .valid)
+    (λ c. sym (inputs-long (c .before .before .before .before .before .before .before .before)))
+    (λ c.
+    let i = c .before .before .before .before in
+    sym (i .invert .kept .0 ∙ inputs-long (i .before .before .before .before .before)))
+    (λ c. zero-le) (λ c. zero-le) (λ c. room (c .before .before)) make-requires
+    (λ c κs.
+    let m = c .before .before .before .before .before in
+    subst (65536 ≤_) (sym (work-long m)) (entry (m .before .before .before .before .before) .pre .2))
+    (λ c. search needs) (λ c. c .before .before .clear .kept .0 ∙ work-long (c .before .before .before .before .before .before .before .before))
     returns-2)

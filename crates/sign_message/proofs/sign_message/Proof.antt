@@ -1,6 +1,8 @@
 -- `sign_message::sign_message` meets its contract: the lengths are tested in order. Assumes nothing.
+use mathlib.Core.Path.{subst}
+use Prim.Native.Nat.{_≤_, _<_}
 use native.Mathlib.Omega.{arith}
-use borrow.Author.Needs.{needs}
+use lib.ListN.{length}
 use Rattle.sign_message.specs.Answers.{
   key-refused,
   public-refused,
@@ -54,7 +56,7 @@ returns-6 c =
     let a = s .args in
     output-refused (s .pre) (a .key .now) (a .public .now) (a .message .now) (a .salt .now) (a .seeds .now) (a .out .now) (a .work .now)
     ((c .before .before .before .before .before .before .before) .if1 .left) ((c .before .before .before .before .before .before) .if2 .left) ((c .before .before .before .before .before) .if3 .left) ((c .before .before .before .before) .if4 .left) ((c .before .before) .if5 .left)
-    (omega (arith, c .if6 .taken, (c .before) .signature-length .ensures))
+    (subst (length (a .out .now) <_) ((c .before) .signature-length .ensures) (c .if6 .taken))
 
 returns-7 : tie.Need-returns-7
 returns-7 c =
@@ -62,7 +64,15 @@ returns-7 c =
     let a = s .args in
     work-refused (s .pre) (a .key .now) (a .public .now) (a .message .now) (a .salt .now) (a .seeds .now) (a .out .now) (a .work .now)
     ((c .before .before .before .before .before .before .before .before) .if1 .left) ((c .before .before .before .before .before .before .before) .if2 .left) ((c .before .before .before .before .before .before) .if3 .left) ((c .before .before .before .before .before) .if4 .left) ((c .before .before .before) .if5 .left)
-    (omega (arith, (c .before) .if6 .left, (c .before .before) .signature-length .ensures)) (c .if7 .taken)
+    (subst (_≤ length (a .out .now)) ((c .before .before) .signature-length .ensures) ((c .before) .if6 .left)) (c .if7 .taken)
+
+mul-if5 : tie.Need-mul-if5
+mul-if5 c =
+    let s = c .before .before .before .before .before .before .before .before .before .before .before .before in
+    omega (arith, s .pre .brief)
+
+signature-length-requires : tie.Need-signature-length-requires
+signature-length-requires c κs = c .before .before .before .before .before .before .before .before .before .before .before .before .before .pre
 
 sign-key-requires : tie.Need-sign-key-requires
 sign-key-requires c κs =
@@ -75,24 +85,13 @@ sign-key-requires c κs =
         salt-size = (c .before .before .before .before .before .before .before) .if4 .left;
         seeds-size = (c .before .before .before .before .before) .if5 .left;
       },
-      omega (arith, (c .before .before .before) .if6 .left, (c .before .before .before .before) .signature-length .ensures),
+      subst (_≤ length (s .args .out .now)) ((c .before .before .before .before) .signature-length .ensures) ((c .before .before .before) .if6 .left),
       (c .before .before) .if7 .left,
     )
 
 pub sign-message-spec : {M : Type 1} → statement M
 sign-message-spec =
     tie.close
-    (tie.spec
-    returns
-    returns-2
-    returns-3
-    returns-4
-    (λ c. search needs)
-    returns-5
-    (λ c κs. search needs)
-    returns-6
-    returns-7
-    sign-key-requires
-    (λ c. search needs)
-    (λ c. search needs)
-    (λ c. search needs))
+    (tie.spec returns returns-2 returns-3 returns-4 mul-if5 returns-5 signature-length-requires returns-6 returns-7 sign-key-requires
+    (λ c. c .before .before .before .before .sign-key .kept .1 .1 .1 .1 .1 .1 .0)
+    (λ c. c .before .before .before .before .sign-key .kept .1 .1 .1 .1 .1 .1 .1 .0) (λ c. c .before .before .before .before .sign-key .ensures))

@@ -1,36 +1,82 @@
--- `signer::offsets` meets its contract, with room for the sum. Assumes nothing.
-use native.Mathlib.Omega.{arith}
-use borrow.Author.Needs.{needs}
-use Rattle.sets.specs.Bounds.{tape-most}
+-- `signer::offsets` meets its contract. Assumes nothing.
+use mathlib.Core.Path.{_≡_, sym, ap, _∙_}
+use Prim.Native.Nat.{ℕ, _-_, _≤_, zero-le}
+use lib.ListN.{length, take, replicate}
+use Rattle.slices.specs.Lists.{zipXor}
+use Rattle.slices.specs.Layout.{total}
+use Rattle.banquet.specs.Shape.{tapeSizes}
+use Rattle.banquet.specs.Sets.{aesScheme}
+use Rattle.banquet.specs.Execution.{tapePart}
+use Rattle.forms.specs.Offsets.{workedOffsets}
 use Rattle.party_shares.proofs.Laws.{front-long}
-use Rattle.signer.proofs.Laws.{sizes-fit, size-is}
+use Rattle.signer.proofs.Laws.{tapes-summed, few-parties, sizes-fit, size-is, tape-room, hash-room}
 use Rattle.signer.proofs.offsets.Statement.{statement}
 use Rattle.signer.proofs.offsets.Tie as tie
 
+abbrev start : tie.After-offset → tie.Start
+start c = c .before .before .before .before .before .before .before .before .before .before .before .before .before .before
+
+-- the room that is lent for the sum: as long as a tape
+module _ (c : tie.After-offset) where
+  size : c .offset .result ≡ total (tapeSizes (start c .args .shape))
+  size = size-is (start c .pre .0 .valid) (c .before .before .tape-sizes .ensures) (c .offset .ensures)
+
+  fits : c .offset .result ≤ 462
+  fits = tape-room (start c .pre .0 .valid) size
+
+  long : length {A = ℕ} (take (c .offset .result - 0) (replicate 462 0)) ≡ total (tapeSizes (start c .args .shape))
+  long = front-long (replicate 462 0) size fits
+
+-- and so it stays
+abbrev sized : tie.After-hash-sum → tie.After-offset
+sized c = c .before .before .before
+
+kept : (c : tie.After-hash-sum) → length (c .hash-sum .last .1 .1 .1 .1 .1 .0) ≡ total (tapeSizes (start (sized c) .args .shape))
+kept c = c .hash-sum .kept .1 .1 .1 .1 .1 .0 ∙ long (sized c)
+
 offset-requires : tie.Need-offset-requires
 offset-requires c κs =
-    let at-tape-sizes = c .before in
-    let s = at-tape-sizes .before .before .before .before .before .before .before .before .before .before .before .before in
-    sizes-fit (s .pre .0 .valid) (at-tape-sizes .tape-sizes .ensures)
+    let t = c .before in sizes-fit (t .before .before .before .before .before .before .before .before .before .before .before .before .pre .0 .valid) (t .tape-sizes .ensures)
 
-part-sum-end : tie.Need-part-sum-end
-part-sum-end c =
-    let at-tape-sizes = c .before .before in
-    let s = at-tape-sizes .before .before .before .before .before .before .before .before .before .before .before .before in
-    let v = s .pre .0 .valid in omega (arith, size-is v (at-tape-sizes .tape-sizes .ensures) (c .offset .ensures), tape-most v)
+hash-sum-requires : tie.Need-hash-sum-requires
+hash-sum-requires c κs =
+    let k = c .before .before in
+    let p = start k .pre in
+    let v = p .0 .valid in (p .1, v .some, few-parties v, p .2, hash-room v (long k))
 
-offsets-under-requires : tie.Need-offsets-under-requires
-offsets-under-requires c κs =
-    let at-offset = c .before .before .before .before in
-    let at-tape-sizes = at-offset .before .before in
-    let s = at-tape-sizes .before .before .before .before .before .before .before .before .before .before .before .before in
-    let p = s .pre in
-    let v = p .0 .valid in
-    let size = size-is v (at-tape-sizes .tape-sizes .ensures) (at-offset .offset .ensures) in
-    (p .0, p .1, p .2, p .3, p .4, p .5, front-long _ size (omega (arith, size, tape-most v)), p .6, p .7, p .8)
+byte-offsets-requires : tie.Need-byte-offsets-requires
+byte-offsets-requires c κs =
+    let h = c .before .before .before .before .before in
+    let p = start (sized h) .pre in (p .0 .valid, p .3, p .4, kept h, p .6, p .7)
+
+product-offsets-requires : tie.Need-product-offsets-requires
+product-offsets-requires c κs =
+    let h = c .before .before .before .before .before .before .before .before .before .before .before in
+    let p = start (sized h) .pre in (p .0, kept h, p .5, p .8)
+
+returns : tie.Need-returns
+returns c =
+    let at-product-offsets = c .before .before .before in
+    let at-byte-offsets = at-product-offsets .before .before .before .before .before .before in
+    let at-hash-sum = at-byte-offsets .before .before .before .before .before .before in
+    let k = sized at-hash-sum in
+    let s = start k in
+    let a = s .args in
+    let sum = tapes-summed (s .pre .0 .valid) (a .salt .now) (a .seeds .now) (a .e) (long k) (at-hash-sum .hash-sum .ensures) in (
+      at-byte-offsets .byte-offsets .ensures .0 ∙ ap (λ t. zipXor (a .key .now) (tapePart (aesScheme (a .shape)) 0 t)) sum,
+      (
+        at-byte-offsets .byte-offsets .ensures .1 ∙ ap (λ t. zipXor (a .inverses .now) (tapePart (aesScheme (a .shape)) 1 t)) sum,
+        at-product-offsets .product-offsets .ensures
+            ∙ ap (λ t. workedOffsets (a .shape) (a .us .now) (a .vs .now) (a .lasts .now) t (a .first .now)) sum,
+      ),
+    )
 
 pub offsets-spec : {M : Type 1} → statement M
 offsets-spec =
     tie.close
-    (tie.spec (λ c κs. search needs) (λ c. search needs) offset-requires (λ c. search needs) (λ c. search needs) part-sum-end
-    offsets-under-requires (λ c. search needs) (λ c. search needs) (λ c. search needs) (λ c. search needs))
+    (tie.spec (λ c κs. c .before .before .before .before .before .before .before .before .before .before .before .pre .0 .valid)
+    (λ c. sym (ap length (c .before .tape-sizes .ensures))) offset-requires (λ c. zero-le) (λ c. zero-le)
+    fits hash-sum-requires byte-offsets-requires product-offsets-requires
+    (λ c. c .before .before .before .before .before .before .before .before .before .byte-offsets .kept .1 .1 .1 .1 .0)
+    (λ c. c .before .before .before .before .before .before .before .before .before .byte-offsets .kept .1 .1 .1 .1 .1 .0)
+    (λ c. c .before .before .before .product-offsets .kept .1 .1 .1 .1 .1 .1 .0) returns)

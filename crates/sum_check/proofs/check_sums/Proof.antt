@@ -2,8 +2,8 @@
 use mathlib.Core.Path.{_≡_, sym, ap, _∙_}
 use Prim.Native.Nat.{ℕ, _*_, _^_, _<_, _≤_}
 use native.Mathlib.Omega.{arith}
+use lib.Dec.{lit≤}
 use lib.ListN.{length}
-use borrow.Author.Needs.{needs}
 use Rattle.slices.specs.Layout.{total}
 use Rattle.sets.specs.Bounds.{rowSizes}
 use Rattle.forms.specs.Sums.{rowProductHolds}
@@ -24,12 +24,19 @@ start r = r .before .before .before .before .before
 abbrev summed : tie.After-equal → tie.After-sum-rows
 summed q = q .before .before .before .before .before
 
+module _ (r : tie.After-sum-rows) where
+  kept : length (r .sum-rows .last .1 .1 .0) ≡ length (start r .args .sums .now)
+  kept = r .sum-rows .kept .1 .1 .0
+
+  outputs-room : 16 ≤ length (r .sum-rows .last .1 .1 .0)
+  outputs-room = omega (arith, kept, start r .pre .2)
+
 module _ (z : tie.After-row-sizes) where
   abbrev sums : tie.After-sum-rows
   sums = summed (z .before .before)
 
   long : length (sums .sum-rows .last .1 .1 .0) ≡ total (rowSizes (start sums .args .shape))
-  long = sums .sum-rows .kept .1 .1 .0 ∙ start sums .pre .2
+  long = kept sums ∙ start sums .pre .2
 
   fits : (k : ℕ) → k < 4
       → (k < length (z .row-sizes .result)) × (total (z .row-sizes .result) ≤ length (sums .sum-rows .last .1 .1 .0))
@@ -37,17 +44,17 @@ module _ (z : tie.After-row-sizes) where
   fits = shares-fit (start sums .pre .0) (sums .sum-rows .last .1 .1 .0) (z .row-sizes .ensures) long
 
 abbrev sized : tie.After-field → tie.After-row-sizes
-sized f = f .before .before .before
+sized f = f .before .before
 
 abbrev first : tie.After-field3 → tie.After-field
-first f = f .before .before .before .before
+first f = f .before .before
 
 holds-requires : tie.Need-holds-requires
 holds-requires c κs =
     let z = sized (first c) in
     let r = sums z in
     shares-sized (start r .pre .0) (r .sum-rows .last .1 .1 .0) (z .row-sizes .ensures) (long z) (first c .field .ensures)
-    (c .before .before .field2 .ensures) (c .field3 .ensures)
+    (c .before .field2 .ensures) (c .field3 .ensures)
 
 product-is : (c : tie.After-holds)
     → c .holds .result
@@ -57,7 +64,7 @@ product-is c =
     let z = sized (first f) in
     let r = sums z in
     row-product (start r .pre .0) (r .sum-rows .last .1 .1 .0) (z .row-sizes .ensures) (long z) (first f .field .ensures)
-    (f .before .before .field2 .ensures) (f .field3 .ensures) (c .holds .ensures)
+    (f .before .field2 .ensures) (f .field3 .ensures) (c .holds .ensures)
 
 -- ---- the answers
 
@@ -92,8 +99,8 @@ returns-3 c =
 pub check-sums-spec : {M : Type 1} → statement M
 check-sums-spec =
     tie.close
-    (tie.spec sum-rows-requires (λ c. search needs) (λ c. search needs) (λ c. search needs) (λ c κs. search needs) (λ c. search needs)
-    (λ c. search needs) returns (λ c κs. start (summed (c .before)) .pre .0) (λ c. search needs)
-    (λ c κs. fits (c .before .before) 1 (omega arith)) (λ c. search needs) (λ c κs. fits (sized (c .before)) 2 (omega arith))
-    (λ c. search needs) (λ c κs. fits (sized (c .before .before .before)) 3 (omega arith)) holds-requires (λ c. search needs) returns-2
-    (λ c. search needs) returns-3)
+    (tie.spec sum-rows-requires (λ c. lit≤ tt) (λ c. lit≤ tt) (λ c. outputs-room (c .before .before .before)) (λ c κs. tt)
+    (λ c. omega (arith, start (summed (c .before .before)) .pre .0 .few)) (λ c. kept (summed (c .before .before))) returns (λ c κs. start (summed (c .before)) .pre .0)
+    (λ c. sym (ap length (c .before .row-sizes .ensures))) (λ c κs. fits (c .before) 1 (omega arith)) (λ c κs. fits (sized c) 2 (omega arith))
+    (λ c κs. fits (sized (c .before)) 3 (omega arith)) holds-requires (λ c. kept (sums (sized (first (c .before .before))))) returns-2
+    (λ c. kept (sums (sized (first (c .before .before))))) returns-3)

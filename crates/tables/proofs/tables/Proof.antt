@@ -1,11 +1,11 @@
 -- `tables::tables` meets its contract: a turn writes the tables of one coefficient. Assumes nothing.
-use mathlib.Core.Path.{_≡_}
+use mathlib.Core.Path.{_≡_, refl, ap}
 use Prim.Native.Nat.{_≤_, _-_, _*_}
 use native.Mathlib.Omega.{arith}
 use lib.ListN.{length, getD}
 use borrow.Author.Needs.{needs}
-use Rattle.slices.proofs.Rows.{Stacking, stacking-none, stacking-lent, stacking-all, row-fits}
-use Rattle.tables.specs.Tables.{tableOf}
+use Rattle.slices.proofs.Rows.{Stacking, stacking-none, stacking-more, stacking-all, row-fits}
+use Rattle.tables.specs.Tables.{halves, tableOf}
 use Rattle.tables.proofs.tables.Statement.{statement}
 use Rattle.tables.proofs.tables.Tie as tie
 
@@ -20,10 +20,12 @@ loop-holds : tie.Need-loop-holds Inv-loop μ-loop
 loop-holds c = (search needs, stacking-none _ 32 (c .before .before .before .pre .2))
 
 loop-again : tie.Need-loop-again Inv-loop μ-loop
+unfolding halves tableOf
 loop-again c =
-    let l = c .before .before .before .before .before .before in
-    let t = c .before .before .table in
-    (omega arith, stacking-lent (l .loop .inv .1) (row-fits 32 (omega arith)) (t .ensures) (t .kept .1 .1 .1 .1 .0))
+    let written = c .before .before in
+    let p = written .before .before .before in
+    let l = p .before .before .before in
+    (omega arith, stacking-more (l .loop .inv .1) refl (ap halves (p .scaled .ensures)) (row-fits 32 (omega arith)) (written .halves .ensures))
 
 returns : tie.Need-returns Inv-loop μ-loop
 returns c =
@@ -34,6 +36,5 @@ returns c =
 pub tables-spec : {M : Type 1} → statement M
 tables-spec =
     tie.close
-    (tie.spec Inv-loop μ-loop loop-holds (λ c. search needs) (λ c. search needs) (λ c. search needs) (λ c. search needs)
-    (λ c. search needs) (λ c. search needs) (λ c. search needs) (λ c. search needs) (λ c κs. search needs) (λ c. search needs)
-    (λ c. search needs) loop-again (λ c. search needs) returns)
+    (tie.spec Inv-loop μ-loop loop-holds (λ c. search needs) (λ c. search needs) (λ c κs. search needs) (λ c. search needs)
+    (λ c. search needs) (λ c κs. search needs) (λ c. search needs) (λ c. search needs) loop-again (λ c. search needs) returns)

@@ -1,5 +1,5 @@
 -- `true_rows::point_rows` meets its contract: the tables give the rows. Assumes nothing.
-use borrow.Author.Needs.{needs}
+use mathlib.Core.Path.{refl, sym}
 use Rattle.slices.specs.Bytes.{bytes-of}
 use Rattle.true_rows.proofs.Laws.{rows-right}
 use Rattle.true_rows.proofs.point_rows.Statement.{statement}
@@ -19,8 +19,23 @@ returns c =
       ),
     )
 
+abbrev start : tie.After-tables2 → tie.Start
+start c = c .before .before .before .before .before .before
+
+rows-requires : tie.Need-rows-requires
+rows-requires c κs =
+    let t = c .before .before .before in
+    let p = start t .pre in (p .0, p .2, t .tables2 .kept .1 .1 .0, p .4)
+
+rows-requires-2 : tie.Need-rows-requires-2
+rows-requires-2 c κs =
+    let t = c .before .before .before .before .before .before .before .before in
+    let p = start t .pre in (p .0, p .3, t .tables2 .kept .1 .1 .0, p .5)
+
 pub point-rows-spec : {M : Type 1} → statement M
 point-rows-spec =
     tie.close
-    (tie.spec (λ c. search needs) (λ c κs. search needs) (λ c. search needs) (λ c κs. search needs) (λ c. search needs)
-    (λ c κs. search needs) (λ c. search needs) (λ c. search needs) returns)
+    (tie.spec (λ c. refl) (λ c κs. let p = c .before .before .before .before .before .pre in (p .0, p .1, refl))
+    (λ c. sym (c .before .before .tables2 .kept .1 .1 .0)) rows-requires
+    (λ c. sym (c .before .before .before .before .before .before .before .tables2 .kept .1 .1 .0)) rows-requires-2
+    (λ c. c .before .before .before .before .before .before .before .rows .kept .1 .1 .1 .0) (λ c. c .before .before .rows2 .kept .1 .1 .1 .0) returns)

@@ -1,0 +1,34 @@
+-- What the passes after the first leave. Assumes nothing.
+use mathlib.Core.Path.{_≡_}
+use mathlib.Core.List.{List, _∷_}
+use Prim.Native.Nat.{ℕ, _+_, _*_}
+use lib.ListN.{take}
+use Rattle.slices.specs.Lists.{rows, row, part}
+use Rattle.slices.specs.Layout.{total}
+use Rattle.shake.specs.Shake128.{shake128}
+use Rattle.banquet.specs.declared.Shape.{Shape}
+use Rattle.banquet.specs.Shape.{firstChallengeLength, frameSizes}
+use Rattle.banquet.specs.Sets.{aesScheme}
+use Rattle.banquet.specs.Hash.{secondHash, thirdHash, firstChallenge, secondChallenge, hiddenParty}
+use Rattle.signing.specs.Steps.{offsetsAt, pointRows, pointLasts, offsetFrame, openedFrame, openedPart, finishedFrame}
+
+-- h3 and the whole frames, from h1 and the frames that have the offsets of key and inverses: there are first challenges, frames with the product
+-- offsets, an h2 and frames with the sums that lead there
+pub record Answered (S : Shape) (publicKey salt roots inputs inverses h1 begun h3 finished : List ℕ) : Type 0 where
+  pub firsts : List ℕ
+  pub held : List ℕ
+  pub h2 : List ℕ
+  pub opened : List ℕ
+  pub firsts-is : firsts ≡ shake128 (6 ∷ h1) (S .executions * firstChallengeLength S)
+  pub held-is : held
+      ≡ rows (λ e. offsetFrame S (pointRows S inputs) (pointRows S inverses) (pointLasts S) (firstChallenge (aesScheme S) h1 e)
+      (row (total (frameSizes S)) e begun)) (S .executions)
+  pub h2-is : h2 ≡ secondHash (aesScheme S) h1 (λ e. part (offsetsAt S + 216) (21 * S .wide) (row (total (frameSizes S)) e held))
+  pub h3-is : h3
+      ≡ thirdHash (aesScheme S) h2 (λ e. openedPart S (take 16 publicKey) salt (row 16 e roots) e (row (firstChallengeLength S) e firsts)
+      (secondChallenge (aesScheme S) h2 e) (row (total (frameSizes S)) e held))
+  pub opened-is : opened
+      ≡ rows (λ e. openedFrame S (take 16 publicKey) salt (row 16 e roots) e (row (firstChallengeLength S) e firsts)
+      (secondChallenge (aesScheme S) h2 e) (row (total (frameSizes S)) e held)) (S .executions)
+  pub finished-is : finished
+      ≡ rows (λ e. finishedFrame S salt (row 16 e roots) e (hiddenParty (aesScheme S) h3 e) (row (total (frameSizes S)) e opened)) (S .executions)

@@ -1,0 +1,2 @@
+-- The steps of a round on planes.
+pub mod Steps
