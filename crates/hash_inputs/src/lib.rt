@@ -21,7 +21,7 @@ pub fn first_input(public: &[u8], message: &[u8], salt: &[u8]) -> Sponge
     absorb::absorb(c, salt)
 }
 
-// "2: h1, ..", "3: h2, ..", "6: h1", "7: h2", "8: h3"
+// A byte and 32 bytes: "1: public key, ..", "2: h1, ..", "3: h2, ..", "6: h1", "7: h2", "8: h3"
 pub fn tagged(tag: u8, h: &[u8]) -> Sponge
     requires { ⌜ length (now h) ≡ 32 ⌝ }
     ensures { λ r. ⌜ r ≡ absorbed empty (tag ∷ now (h .entry)) ⌝ }

@@ -23,6 +23,7 @@ pub fn sibling_seeds(
         let seeds = nodes::children(salt, e, node, seed);
         let end = out.len();
         let half = 1 << (depth - 1);
+        // The child on the way to the leaf, the leaf among those below it, and where its seed stands.
         let mut child = 2 * node + 1;
         let mut leaf = hidden;
         let mut own = 0;
