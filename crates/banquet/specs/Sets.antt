@@ -2,7 +2,9 @@
 use mathlib.Core.Path.{_≡_, refl}
 use mathlib.Core.List.{List, [], _∷_}
 use Prim.Native.Nat.{ℕ}
+use lib.Dec.{eqb}
 use lib.ListN.{take, drop}
+use Rattle.slices.specs.Lists.{choose}
 use Rattle.slices.specs.Layout.{total}
 use Rattle.field.specs.Wide32.{low32, y32}
 use Rattle.wide48.specs.Wide48.{low48, y48}
@@ -37,26 +39,7 @@ aesCircuit = record {
   outputShare = λ plaintext. outputShare;
 }
 
--- "AES-128 is FIPS 197, SHAKE128 is FIPS 202."
-abbrev pub aesScheme : Shape → Scheme
-aesScheme S = record { shape = S; hash = shake128; circuit = aesCircuit }
-
-abbrev pub baseScheme : Scheme
-baseScheme = aesScheme base
-
--- ---- document 02
-
--- slip 7: "107 parties, 24 executions and lift factor 6"
-abbrev pub short : Shape
-short = record { parties = 107; depth = 7; executions = 24; wide = 6; low = low48; y = y48; m1 = 10; m2 = 20; front = 16 }
-
-abbrev pub shortScheme : Scheme
-shortScheme = aesScheme short
-
--- slip 14: "There are 160 S-boxes", "m1 = 8", "m2 = 20"; AES key and x stand before the ciphertext
-abbrev pub scheduleFree : Shape
-scheduleFree = record { parties = 16; depth = 4; executions = 41; wide = 4; low = low32; y = y32; m1 = 8; m2 = 20; front = 32 }
-
+-- the Even-Mansour form
 abbrev pub evenMansourCircuit : Circuit
 evenMansourCircuit = record {
   sboxInputs = λ front key. evenMansourInputs (take 16 front) (drop 16 front) key;
@@ -65,8 +48,43 @@ evenMansourCircuit = record {
   outputShare = λ front. evenMansourOutputShare (keyExpansion (take 16 front));
 }
 
+-- AES where the front of a public key is the plaintext, and the Even-Mansour form where it is AES key and x
+abbrev pub circuitOf : ℕ → Circuit
+circuitOf front = choose (eqb front 16) aesCircuit evenMansourCircuit
+
+-- "AES-128 is FIPS 197, SHAKE128 is FIPS 202."
+abbrev pub schemeOf : Shape → Scheme
+schemeOf S = record { shape = S; hash = shake128; circuit = circuitOf (S .front) }
+
+abbrev pub baseScheme : Scheme
+baseScheme = schemeOf base
+
+-- ---- document 02
+
+-- slip 7: "107 parties, 24 executions and lift factor 6"
+abbrev pub short : Shape
+short = record { parties = 107; depth = 7; executions = 24; wide = 6; low = low48; y = y48; m1 = 10; m2 = 20; front = 16 }
+
+abbrev pub shortScheme : Scheme
+shortScheme = schemeOf short
+
+-- slip 14: "There are 160 S-boxes", "m1 = 8", "m2 = 20"; AES key and x stand before the ciphertext
+abbrev pub scheduleFree : Shape
+scheduleFree = record { parties = 16; depth = 4; executions = 41; wide = 4; low = low32; y = y32; m1 = 8; m2 = 20; front = 32 }
+
 abbrev pub scheduleFreeScheme : Scheme
-scheduleFreeScheme = record { shape = scheduleFree; hash = shake128; circuit = evenMansourCircuit }
+scheduleFreeScheme = schemeOf scheduleFree
+
+-- ---- the circuit of each
+
+pub base-circuit : baseScheme .circuit ≡ aesCircuit
+base-circuit = refl
+
+pub short-circuit : shortScheme .circuit ≡ aesCircuit
+short-circuit = refl
+
+pub scheduleFree-circuit : scheduleFreeScheme .circuit ≡ evenMansourCircuit
+scheduleFree-circuit = refl
 
 -- ---- figures: public key, first challenge, root seeds, tape, frame, signature, opening, and its bytes before the hidden party
 

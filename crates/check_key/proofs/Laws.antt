@@ -1,68 +1,74 @@
--- The plaintext and the ciphertext as the code takes them, what the first zero of the S-boxes' inputs says, and the answers. Assumes nothing.
+-- The plaintext and the ciphertext as the code takes them, the S-boxes' inputs and their inverses, what the first zero says, and the answers.
+-- Assumes nothing.
 use mathlib.Core.Path.{_≡_, sym, ap, ap₂, _∙_}
-use mathlib.Core.Bool.{Bool, true, false}
-use mathlib.Core.List.{List}
-use Prim.Native.Nat.{ℕ, _-_, _*_, _<_, _≤_}
+use mathlib.Core.Bool.{Bool}
+use mathlib.Core.List.{List, map}
+use Prim.Native.Nat.{ℕ, _-_, _<_, _≤_}
 use native.Mathlib.Omega.{arith}
 use lib.ListN.{length, take, drop, length-drop}
 use lib.Seq.{take-all}
 use borrow.Author.Tests.{eq-eqb, ne-eqb}
 use Rattle.slices.specs.Lists.{same}
+use Rattle.field.specs.Byte.{inverse8}
 use Rattle.aes.specs.Aes.{aes, sboxInputs, firstZero}
 use Rattle.aes.specs.Sizes.{length-sboxInputs}
 use Rattle.aes.specs.Zero.{firstZero-le}
 use Rattle.banquet.specs.declared.Shape.{Shape}
+use Rattle.banquet.specs.declared.Answer.{Answer}
 use Rattle.banquet.specs.declared.Answer.the-variants.{Accepted, ZeroInput, WrongKey}
-use Rattle.banquet.specs.Sets.{aesScheme}
+use Rattle.banquet.specs.Shape.{sboxes}
+use Rattle.banquet.specs.Scheme.{Circuit, trueInverses}
+use Rattle.banquet.specs.Sets.{schemeOf}
 use Rattle.banquet.specs.Answer.{require}
 use Rattle.banquet.specs.Key.{zeroInput, frontOf, ciphertextOf, checkInputs, checkKey}
 use Rattle.sets.specs.Valid.{Valid}
-use Rattle.sets.specs.Bounds.{all-sboxes}
+use Rattle.sets.specs.Circuit.{circuit-is, sboxes-200}
 
 module _ {S : Shape} (v : Valid S) (key public : List ℕ) where
   abbrev front : List ℕ
-  front = frontOf (aesScheme S) public
+  front = frontOf (schemeOf S) public
 
   front-is : take 16 public ≡ front
   front-is = ap (λ n. take n public) (sym (v .plaintext))
 
-  module _ {inputs : List ℕ} (given : inputs ≡ sboxInputs key (take 16 public)) where
-    pub inputs-right : inputs ≡ sboxInputs key front
-    inputs-right = given ∙ ap (sboxInputs key) front-is
+  -- the answer, what the S-boxes are given, and its inverses
+  module _ {inputs inverses : List ℕ} (given : inputs ≡ sboxInputs key (take 16 public)) (inverted : inverses ≡ map inverse8 inputs) where
+    abbrev pub Answered : Answer → Type 0
+    Answered a =
+        (a ≡ checkKey (schemeOf S) public key Accepted)
+        × ((inputs ≡ schemeOf S .circuit .sboxInputs front key) × (inverses ≡ trueInverses (schemeOf S) front key))
 
-    -- n is the first zero of all 200
-    module _ {n : ℕ} (found : n ≡ firstZero (take 200 inputs)) where
+    inputs-right : inputs ≡ schemeOf S .circuit .sboxInputs front key
+    inputs-right = given ∙ ap (sboxInputs key) front-is ∙ ap (λ (c : Circuit). c .sboxInputs front key) (sym (circuit-is v))
+
+    both-right : (inputs ≡ schemeOf S .circuit .sboxInputs front key) × (inverses ≡ trueInverses (schemeOf S) front key)
+    both-right = (inputs-right, inverted ∙ ap (map inverse8) inputs-right)
+
+    -- n is the first zero of all k
+    module _ {k n : ℕ} (all : k ≡ sboxes S) (found : n ≡ firstZero (take (k - 0) inputs)) where
       all-tested : n ≡ firstZero inputs
       all-tested =
-          found ∙ ap firstZero (take-all 200 inputs (omega (arith, ap length given, length-sboxInputs key (take 16 public))))
+          found ∙ ap firstZero (take-all (k - 0) inputs (omega (arith, all, sboxes-200 v, ap length given, length-sboxInputs key (take 16 public))))
 
-      pub zero-found : n ≡ zeroInput (aesScheme S) front key
+      zero-found : n ≡ zeroInput (schemeOf S) front key
       zero-found = all-tested ∙ ap firstZero inputs-right
 
-      pub none-found : 200 ≤ n → n ≡ 200
-      none-found l = omega (arith, all-tested, l, firstZero-le inputs, ap length given, length-sboxInputs key (take 16 public))
-
-  -- the test of the ciphertext
-  pub ciphertext-tested : {ciphertext : List ℕ} {t : Bool} → length public ≡ 32 → ciphertext ≡ aes key (take 16 public)
-      → t ≡ same ciphertext (take (32 - 16) (drop 16 public))
-      → same (aesScheme S .circuit .encrypt front key) (ciphertextOf (aesScheme S) public) ≡ t
-  ciphertext-tested l c h =
-      sym (h ∙ ap₂ same (c ∙ ap (aes key) front-is)
-      (take-all 16 (drop 16 public) (omega (arith, l, length-drop 16 public)) ∙ ap (λ n. drop n public) (sym (v .plaintext))))
-
-  -- ---- the three answers
-
-  module _ {n : ℕ} (found : n ≡ zeroInput (aesScheme S) front key) where
-    pub zero-refused : n < 200 → ZeroInput n ≡ checkKey (aesScheme S) public key Accepted
-    unfolding checkKey checkInputs require
-    zero-refused z = simp (← found, ne-eqb n (S .m1 * S .m2) (λ h. omega (arith, h, z, all-sboxes v)))
-
-    module _ (none : n ≡ 200) {t : Bool}
-        (tested : same (aesScheme S .circuit .encrypt front key) (ciphertextOf (aesScheme S) public) ≡ t) where
-      pub wrong-refused : t ≡ false → WrongKey ≡ checkKey (aesScheme S) public key Accepted
+      pub zero-refused : n < k → Answered (ZeroInput n)
       unfolding checkKey checkInputs require
-      wrong-refused h = simp (← found, eq-eqb n (S .m1 * S .m2) (none ∙ sym (all-sboxes v)), tested ∙ h)
+      zero-refused z = (simp (← zero-found, ne-eqb n (sboxes S) (λ h. omega (arith, h, z, all))), both-right)
 
-      pub good : t ≡ true → Accepted ≡ checkKey (aesScheme S) public key Accepted
-      unfolding checkKey checkInputs require
-      good h = simp (← found, eq-eqb n (S .m1 * S .m2) (none ∙ sym (all-sboxes v)), tested ∙ h)
+      -- none is zero, and t is the test of the ciphertext
+      module _ (none : k ≤ n) (size : length public ≡ 32) {ciphertext : List ℕ} {t : Bool} (is : ciphertext ≡ aes key (take 16 public))
+          (test : t ≡ same ciphertext (take (32 - 16) (drop 16 public))) where
+        all-found : n ≡ sboxes S
+        all-found =
+            omega (arith, all-tested, none, all, firstZero-le inputs, ap length given, length-sboxInputs key (take 16 public), sboxes-200 v)
+
+        tested : same (schemeOf S .circuit .encrypt front key) (ciphertextOf (schemeOf S) public) ≡ t
+        tested =
+            sym (test ∙ ap₂ same (is ∙ ap (aes key) front-is ∙ ap (λ (c : Circuit). c .encrypt front key) (sym (circuit-is v)))
+            (take-all 16 (drop 16 public) (omega (arith, size, length-drop 16 public)) ∙ ap (λ n. drop n public) (sym (v .plaintext))))
+
+        pub compared : {u : Bool} → t ≡ u → Answered (require u WrongKey Accepted)
+        unfolding checkKey checkInputs require
+        compared h = (simp (← zero-found, eq-eqb n (sboxes S) all-found, tested ∙ h), both-right)

@@ -2,7 +2,7 @@
 use mathlib.Core.Path.{_≡_, refl, sym, ap, _∙_}
 use mathlib.Core.Logic.{_≢_}
 use mathlib.Core.List.{List}
-use Prim.Native.Nat.{ℕ, suc, _+_, _-_, _*_, _^_, _<_, _≤_}
+use Prim.Native.Nat.{ℕ, suc, _+_, _-_, _*_, _<_, _≤_}
 use native.Mathlib.Nat.{sub-zero}
 use native.Mathlib.Omega.{arith}
 use lib.ListN.{length, getD, take, drop, length-take, length-drop}
@@ -13,23 +13,18 @@ use Rattle.banquet.specs.declared.Shape.{Shape}
 use Rattle.banquet.specs.declared.Answer.{Answer}
 use Rattle.banquet.specs.declared.Answer.the-variants.{PublicKeyLength, FileLength, WorkLength}
 use Rattle.banquet.specs.Shape.{workLength, publicKeyLength, transcriptSizes, openingLength}
-use Rattle.banquet.specs.Sets.{aesScheme}
+use Rattle.banquet.specs.Sets.{schemeOf}
 use Rattle.banquet.specs.Answer.{require, workAfter}
 use Rattle.banquet.specs.Opening.{transcriptOf, hiddenOf, siblingsOf, checkOpening}
 use Rattle.banquet.specs.Calls.{verifyOpeningAnswer}
 use Rattle.scratch.specs.Clears.{called}
 use Rattle.sets.specs.Valid.{Valid}
-use Rattle.sets.specs.Bounds.{transcript-most}
-
--- all sizes can be added
-pub sizes-fit : {S : Shape} {sizes : List ℕ} → Valid S → sizes ≡ transcriptSizes S → (12 ≤ length sizes) × (total sizes < 2 ^ 63)
-sizes-fit v e = rw e (omega arith, omega (arith, transcript-most v))
 
 module _ {S : Shape} (v : Valid S) (publicKey o work : List ℕ) where
   open Shape S using (depth)
 
   abbrev whole : Answer
-  whole = verifyOpeningAnswer (aesScheme S) publicKey o work
+  whole = verifyOpeningAnswer (schemeOf S) publicKey o work
 
   key-length : publicKeyLength S ≡ 32
   key-length = omega (arith, v .plaintext)
@@ -38,11 +33,8 @@ module _ {S : Shape} (v : Valid S) (publicKey o work : List ℕ) where
   unfolding verifyOpeningAnswer require workAfter
   key-refused h = called work (rw (ne-eqb (length publicKey) (publicKeyLength S) (λ x. h (x ∙ key-length)))) refl
 
-  module _ (key : length publicKey ≡ 32) {end : ℕ} (is : end ≡ total (transcriptSizes S)) where
-    file-length : end + 1 + 16 * depth ≡ openingLength S
-    file-length = omega (arith, is)
-
-    pub file-refused : length o ≢ end + 1 + 16 * depth → (FileLength ≡ whole) × (work ≡ workAfter whole work)
+  module _ (key : length publicKey ≡ 32) {end size : ℕ} (is : end ≡ total (transcriptSizes S)) (file-length : size ≡ openingLength S) where
+    pub file-refused : length o ≢ size → (FileLength ≡ whole) × (work ≡ workAfter whole work)
     unfolding verifyOpeningAnswer require workAfter
     file-refused h =
         called work (rw (
@@ -50,7 +42,7 @@ module _ {S : Shape} (v : Valid S) (publicKey o work : List ℕ) where
           ne-eqb (length o) (openingLength S) (λ x. h (x ∙ sym file-length)),
         )) refl
 
-    module _ (file : length o ≡ end + 1 + 16 * depth) where
+    module _ (file : length o ≡ size) where
       pub work-refused : length work < workLength → (WorkLength ≡ whole) × (work ≡ workAfter whole work)
       unfolding verifyOpeningAnswer require workAfter
       work-refused h =
@@ -61,7 +53,7 @@ module _ {S : Shape} (v : Valid S) (publicKey o work : List ℕ) where
           )) refl
 
       lengths-passed : workLength ≤ length work
-          → whole ≡ checkOpening (aesScheme S) publicKey (transcriptOf (aesScheme S) o) (hiddenOf (aesScheme S) o) (siblingsOf (aesScheme S) o)
+          → whole ≡ checkOpening (schemeOf S) publicKey (transcriptOf (schemeOf S) o) (hiddenOf (schemeOf S) o) (siblingsOf (schemeOf S) o)
       unfolding verifyOpeningAnswer require
       lengths-passed h =
           rw (
@@ -71,28 +63,28 @@ module _ {S : Shape} (v : Valid S) (publicKey o work : List ℕ) where
           )
 
       -- the parts as the code has them
-      transcript-is : take (end - 0) o ≡ transcriptOf (aesScheme S) o
+      transcript-is : take (end - 0) o ≡ transcriptOf (schemeOf S) o
       transcript-is = rw sub-zero (ap (λ n. take n o) is)
 
-      siblings-are : take (end + 1 + 16 * depth - (end + 1)) (drop (end + 1) o) ≡ siblingsOf (aesScheme S) o
+      siblings-are : take (size - (end + 1)) (drop (end + 1) o) ≡ siblingsOf (schemeOf S) o
       siblings-are =
           let n : end + 1 ≡ suc (total (transcriptSizes S)) = omega (arith, is) in
-          take-all (end + 1 + 16 * depth - (end + 1)) (drop (end + 1) o) (omega (arith, length-drop (end + 1) o, file)) ∙ ap (λ n. drop n o) n
+          take-all (size - (end + 1)) (drop (end + 1) o) (omega (arith, length-drop (end + 1) o, file)) ∙ ap (λ n. drop n o) n
 
       pub parts-long : (length (take (end - 0) o) ≡ total (transcriptSizes S))
-          × (length (take (end + 1 + 16 * depth - (end + 1)) (drop (end + 1) o)) ≡ depth * 16)
+          × (length (take (size - (end + 1)) (drop (end + 1) o)) ≡ depth * 16)
       parts-long = (
         rw sub-zero (length-take-le end o (omega arith) ∙ is),
         simp (length-take, length-drop) (omega arith),
       )
 
       pub opening-checked : {r : Answer} {w : List ℕ} → workLength ≤ length work
-          → r ≡ checkOpening (aesScheme S) publicKey (take (end - 0) o) (getD o end 0) (take (end + 1 + 16 * depth - (end + 1)) (drop (end + 1) o))
+          → r ≡ checkOpening (schemeOf S) publicKey (take (end - 0) o) (getD o end 0) (take (size - (end + 1)) (drop (end + 1) o))
           → w ≡ workAfter
-          (checkOpening (aesScheme S) publicKey (take (end - 0) o) (getD o end 0) (take (end + 1 + 16 * depth - (end + 1)) (drop (end + 1) o))) work
+          (checkOpening (schemeOf S) publicKey (take (end - 0) o) (getD o end 0) (take (size - (end + 1)) (drop (end + 1) o))) work
           → (r ≡ whole) × (w ≡ workAfter whole work)
       opening-checked h e f =
-          let same : checkOpening (aesScheme S) publicKey (take (end - 0) o) (getD o end 0)
-          (take (end + 1 + 16 * depth - (end + 1)) (drop (end + 1) o)) ≡ whole =
+          let same : checkOpening (schemeOf S) publicKey (take (end - 0) o) (getD o end 0)
+          (take (size - (end + 1)) (drop (end + 1) o)) ≡ whole =
           rw (transcript-is, siblings-are, is) (sym (lengths-passed h)) in
           (e ∙ same, f ∙ ap (λ a. workAfter a work) same)

@@ -11,7 +11,7 @@ use Rattle.slices.specs.Layout.{field}
 use Rattle.banquet.specs.declared.Shape.{Shape}
 use Rattle.banquet.specs.declared.Answer.{Answer}
 use Rattle.banquet.specs.declared.Answer.the-variants.{ExecutionRange, HiddenPartyRange, SecondChallengeRange}
-use Rattle.banquet.specs.Sets.{aesScheme}
+use Rattle.banquet.specs.Sets.{schemeOf}
 use Rattle.banquet.specs.Answer.{require, cleared, workAfter}
 use Rattle.banquet.specs.Opening.{executionOf, secondOf, shownSeed, checkParties, checkOpening}
 use Rattle.scratch.specs.Scratch.{Scratch, cleared-scratch}
@@ -19,7 +19,7 @@ use Rattle.scratch.specs.Clears.{Clears, work-clears, called}
 use Rattle.check_opening.proofs.Clears.{parties-clear}
 
 -- the execution is a byte
-pub execution-is : (S : Shape) (t : List ℕ) → 32 < length t → getD t 32 0 ≡ executionOf (aesScheme S) t
+pub execution-is : (S : Shape) (t : List ℕ) → 32 < length t → getD t 32 0 ≡ executionOf (schemeOf S) t
 unfolding field number
 execution-is S t h = rw (drop-cons t 32 0 h) (omega arith)
 
@@ -29,9 +29,9 @@ module _ (S : Shape) (publicKey t : List ℕ) (hidden : ℕ) (siblings work : Li
   open Shape S using (parties, executions, m2)
 
   abbrev answer : Answer
-  answer = checkOpening (aesScheme S) publicKey t hidden siblings
+  answer = checkOpening (schemeOf S) publicKey t hidden siblings
 
-  module _ {e : ℕ} (is : e ≡ executionOf (aesScheme S) t) where
+  module _ {e : ℕ} (is : e ≡ executionOf (schemeOf S) t) where
     pub execution-refused : executions ≤ e → (ExecutionRange ≡ answer) × (work ≡ workAfter answer work)
     unfolding checkOpening require workAfter
     execution-refused h = called work (rw (← is) (simp (le-ltb e executions h))) refl
@@ -41,22 +41,22 @@ module _ (S : Shape) (publicKey t : List ℕ) (hidden : ℕ) (siblings work : Li
       unfolding checkOpening require workAfter
       hidden-refused h = called work (rw (← is) (simp (lt-ltb e executions pass, le-ltb hidden parties h))) refl
 
-      module _ (pass-hidden : hidden < parties) {second : ℕ} (second-is : second ≡ secondOf (aesScheme S) t) where
+      module _ (pass-hidden : hidden < parties) {second : ℕ} (second-is : second ≡ secondOf (schemeOf S) t) where
         pub second-refused : second < m2 → (SecondChallengeRange ≡ answer) × (work ≡ workAfter answer work)
         unfolding checkOpening require workAfter
         second-refused h =
             called work (rw (← is, ← second-is) (simp (lt-ltb e executions pass, lt-ltb hidden parties pass-hidden, lt-leb m2 second h))) refl
 
-        ranges-passed : m2 ≤ second → answer ≡ checkParties (aesScheme S) publicKey t hidden (shownSeed (aesScheme S) t hidden siblings)
+        ranges-passed : m2 ≤ second → answer ≡ checkParties (schemeOf S) publicKey t hidden (shownSeed (schemeOf S) t hidden siblings)
         unfolding checkOpening require
         ranges-passed h =
             rw (← is, ← second-is) (simp (lt-ltb e executions pass, lt-ltb hidden parties pass-hidden, le-leb m2 second h))
 
         -- the parties are checked, and the work slice's front is set to zero
         pub parties-checked : m2 ≤ second → {r : Answer} {u w : List ℕ}
-            → r ≡ checkParties (aesScheme S) publicKey t hidden (shownSeed (aesScheme S) t hidden siblings) → Scratch work u → w ≡ cleared u
+            → r ≡ checkParties (schemeOf S) publicKey t hidden (shownSeed (schemeOf S) t hidden siblings) → Scratch work u → w ≡ cleared u
             → (r ≡ answer) × (w ≡ workAfter answer work)
         parties-checked h {r} q s e =
             let is-r : answer ≡ r = ranges-passed h ∙ sym q in
-            let clear : Clears r = rw q (parties-clear S publicKey t hidden (shownSeed (aesScheme S) t hidden siblings)) in
+            let clear : Clears r = rw q (parties-clear S publicKey t hidden (shownSeed (schemeOf S) t hidden siblings)) in
             called work is-r (e ∙ cleared-scratch s ∙ work-clears work clear)

@@ -6,7 +6,7 @@ ghost use Prim.Native.Nat.{_*_, _≤_};
 ghost use lib.ListN.{length};
 ghost use Rattle.slices.specs.Layout.{total};
 ghost use Rattle.banquet.specs.Shape.{transcriptSizes};
-ghost use Rattle.banquet.specs.Sets.{aesScheme};
+ghost use Rattle.banquet.specs.Sets.{schemeOf};
 ghost use Rattle.banquet.specs.Answer.{workAfter};
 ghost use Rattle.banquet.specs.Opening.{secondOf, shownSeed, checkParties, checkOpening};
 ghost use Rattle.banquet.specs.Calls.{verifyOpening};
@@ -28,8 +28,8 @@ fn check_parties(
     requires { ⌜ Given shape (now public) (now transcript) e second × (length (now siblings) ≡ shape .depth * 16)
         × (65536 ≤ length (now work)) ⌝ }
     ensures { λ r. ⌜ r
-        ≡ checkParties (aesScheme shape) (now (public .entry)) (now (transcript .entry)) hidden
-        (shownSeed (aesScheme shape) (now (transcript .entry)) hidden (now (siblings .entry))) ⌝ }
+        ≡ checkParties (schemeOf shape) (now (public .entry)) (now (transcript .entry)) hidden
+        (shownSeed (schemeOf shape) (now (transcript .entry)) hidden (now (siblings .entry))) ⌝ }
     ensures { λ _. ⌜ Scratch (now (work .entry)) (now (work .exit)) ⌝ }
 {
     let sizes: &[usize] = &opening_sizes::transcript_sizes(shape);
@@ -73,7 +73,7 @@ fn check_parties(
 // The second challenge as a number.
 fn second_of(shape: Shape, transcript: &[u8]) -> u64
     requires { ⌜ Valid shape × (length (now transcript) ≡ total (transcriptSizes shape)) ⌝ }
-    ensures { λ r. ⌜ r ≡ secondOf (aesScheme shape) (now (transcript .entry)) ⌝ }
+    ensures { λ r. ⌜ r ≡ secondOf (schemeOf shape) (now (transcript .entry)) ⌝ }
 {
     let at = fields::offset(&opening_sizes::transcript_sizes(shape), 8);
     numbers::load(transcript, at, shape.wide)
@@ -90,9 +90,9 @@ fn check_ranges(
 ) -> Answer
     requires { ⌜ Valid shape × (length (now public) ≡ 32) × (length (now transcript) ≡ total (transcriptSizes shape))
         × (length (now siblings) ≡ shape .depth * 16) × (65536 ≤ length (now work)) ⌝ }
-    ensures { λ r. ⌜ r ≡ checkOpening (aesScheme shape) (now (public .entry)) (now (transcript .entry)) hidden (now (siblings .entry)) ⌝ }
+    ensures { λ r. ⌜ r ≡ checkOpening (schemeOf shape) (now (public .entry)) (now (transcript .entry)) hidden (now (siblings .entry)) ⌝ }
     ensures { λ _. ⌜ now (work .exit)
-        ≡ workAfter (checkOpening (aesScheme shape) (now (public .entry)) (now (transcript .entry)) hidden (now (siblings .entry)))
+        ≡ workAfter (checkOpening (schemeOf shape) (now (public .entry)) (now (transcript .entry)) hidden (now (siblings .entry)))
         (now (work .entry)) ⌝ }
 {
     let e = transcript[32];
@@ -114,15 +114,15 @@ fn check_ranges(
 // The call, which refuses by lengths first.
 pub fn check(shape: Shape, public: &[u8], opening: &[u8], work: &mut [u8]) -> Answer
     requires { ⌜ Valid shape ⌝ }
-    ensures { λ r. ⌜ r ≡ verifyOpening (aesScheme shape) (now (public .entry)) (now (opening .entry)) (now (work .entry)) .answer ⌝ }
+    ensures { λ r. ⌜ r ≡ verifyOpening (schemeOf shape) (now (public .entry)) (now (opening .entry)) (now (work .entry)) .answer ⌝ }
     ensures { λ _. ⌜ now (work .exit)
-        ≡ verifyOpening (aesScheme shape) (now (public .entry)) (now (opening .entry)) (now (work .entry)) .work ⌝ }
+        ≡ verifyOpening (schemeOf shape) (now (public .entry)) (now (opening .entry)) (now (work .entry)) .work ⌝ }
 {
     if public.len() != 32 {
         return Answer::PublicKeyLength;
     }
-    let end = fields::offset(&opening_sizes::transcript_sizes(shape), 12);
-    let whole = end + 1 + 16 * shape.depth;
+    let end = opening_sizes::transcript_length(shape);
+    let whole = opening_sizes::opening_length(shape);
     if opening.len() != whole {
         return Answer::FileLength;
     }

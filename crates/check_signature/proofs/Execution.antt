@@ -2,7 +2,7 @@
 use mathlib.Core.Path.{_≡_, refl, sym, ap, ap₂, _∙_}
 use mathlib.Core.List.{List, _∷_, _++_}
 use Prim.Native.Nat.{ℕ, _+_, _-_, _*_, _<_, _≤_}
-use native.Mathlib.Nat.{mul-le-mul, min-le-right, sub-zero}
+use native.Mathlib.Nat.{min-le-right, sub-zero}
 use native.Mathlib.Omega.{arith}
 use lib.ListN.{length, take, drop, replicate, length-replicate, length-take, length-drop, take-append-drop}
 use lib.Seq.{drop-append-le, take-append-le}
@@ -19,10 +19,10 @@ use Rattle.shake.specs.Shake128.{shake128}
 use Rattle.shake.specs.Laws.{sized-shake}
 use Rattle.banquet.specs.declared.Shape.{Shape}
 use Rattle.banquet.specs.Shape.{firstChallengeLength}
-use Rattle.banquet.specs.Sets.{aesScheme}
+use Rattle.banquet.specs.Sets.{schemeOf}
 use Rattle.banquet.specs.Hash.{evaluationPoint, partyOf, firstChallenge, secondChallenge, hiddenParty}
 use Rattle.banquet.specs.Signature.{headPart, frameOf, frameH1Part, frameH3Part}
-use Rattle.sets.specs.Bounds.{by-ten}
+use Rattle.sets.specs.Bounds.{firsts-most}
 use Rattle.challenges.specs.Challenges.{second-wide, hidden-lt}
 use Rattle.frames.specs.Frames.{sized-frame}
 use Rattle.frame_hashes.specs.Given.{Given}
@@ -82,23 +82,21 @@ module _ {S : Shape} {publicKey s firsts seconds thirds : List ℕ} (f : Files S
   n = firstChallengeLength S
 
   firsts-sized : Sized (executions * n) (take (executions * n) firsts)
-  firsts-sized = drawn (6 ∷ headPart (aesScheme S) 1 s) (d .firsts-are)
+  firsts-sized = drawn (6 ∷ headPart (schemeOf S) 1 s) (d .firsts-are)
 
   seconds-sized : Sized (executions * wide) (take (executions * wide) seconds)
   seconds-sized = drawn (7 ∷ h2Of S s) (d .seconds-are)
 
   thirds-sized : Sized (executions * 4) (take (executions * 4) thirds)
-  thirds-sized = drawn (8 ∷ headPart (aesScheme S) 2 s) (d .thirds-are)
+  thirds-sized = drawn (8 ∷ headPart (schemeOf S) 2 s) (d .thirds-are)
 
   module _ {e : ℕ} (l : e < executions) where
     -- they are there, and few
     pub first-room : e * n + n ≤ length firsts
     first-room = omega (arith, row-fits n l, firsts-sized .size, taken-most (executions * n) firsts)
 
-    pub first-most : e * n + n ≤ 15360
-    first-most =
-        let few : n ≤ 60 = omega (arith, by-ten (f .valid) wide, f .valid .wide-most) in
-        omega (arith, row-fits n l, mul-le-mul (f .valid .brief) few)
+    pub first-most : e * n + n ≤ 2460
+    first-most = omega (arith, row-fits n l, firsts-most (f .valid))
 
     pub second-room : e * wide + wide ≤ length seconds
     second-room = omega (arith, row-fits wide l, seconds-sized .size, taken-most (executions * wide) seconds)
@@ -108,9 +106,9 @@ module _ {S : Shape} {publicKey s firsts seconds thirds : List ℕ} (f : Files S
 
     -- ---- what the execution is given
 
-    module _ {salt first frame : List ℕ} {hidden second : ℕ} (salt-is : salt ≡ headPart (aesScheme S) 0 s)
+    module _ {salt first frame : List ℕ} {hidden second : ℕ} (salt-is : salt ≡ headPart (schemeOf S) 0 s)
         (hidden-is : hidden ≡ partyOf parties (numberAt 4 e thirds)) (first-is : first ≡ row n e firsts)
-        (second-is : second ≡ evaluationPoint (S .m2) (numberAt wide e seconds)) (frame-is : frame ≡ frameOf (aesScheme S) s e) where
+        (second-is : second ≡ evaluationPoint (S .m2) (numberAt wide e seconds)) (frame-is : frame ≡ frameOf (schemeOf S) s e) where
       first-taken : first ≡ row n e (take (executions * n) firsts)
       first-taken = first-is ∙ row-taken n firsts (firsts-sized .size) l
 
@@ -131,15 +129,15 @@ module _ {S : Shape} {publicKey s firsts seconds thirds : List ℕ} (f : Files S
         frame-sized = rw frame-is (sized-frame S s (f .file-sized) l);
       }
 
-      hidden-right : hidden ≡ hiddenParty (aesScheme S) (headPart (aesScheme S) 2 s) e
+      hidden-right : hidden ≡ hiddenParty (schemeOf S) (headPart (schemeOf S) 2 s) e
       unfolding hiddenParty
       hidden-right = hidden-taken ∙ ap (λ t. partyOf parties (numberAt 4 e t)) (d .thirds-are)
 
-      first-right : first ≡ firstChallenge (aesScheme S) (headPart (aesScheme S) 1 s) e
+      first-right : first ≡ firstChallenge (schemeOf S) (headPart (schemeOf S) 1 s) e
       unfolding firstChallenge
       first-right = first-taken ∙ ap (row n e) (d .firsts-are)
 
-      second-right : second ≡ secondChallenge (aesScheme S) (h2Of S s) e
+      second-right : second ≡ secondChallenge (schemeOf S) (h2Of S s) e
       unfolding secondChallenge
       second-right = second-taken ∙ ap (λ t. evaluationPoint (S .m2) (numberAt wide e t)) (d .seconds-are)
 

@@ -16,7 +16,7 @@ use Rattle.shake.specs.Shake128.{shake128}
 use Rattle.banquet.specs.declared.Shape.{Shape}
 use Rattle.banquet.specs.declared.Answer.{Answer}
 use Rattle.banquet.specs.declared.Answer.the-variants.{Accepted, FirstHashDiffers, ThirdHashDiffers}
-use Rattle.banquet.specs.Sets.{aesScheme}
+use Rattle.banquet.specs.Sets.{schemeOf}
 use Rattle.banquet.specs.Answer.{require}
 use Rattle.banquet.specs.Hash.{firstHash, thirdHash}
 use Rattle.banquet.specs.Signature.{headPart, frameOf, recomputedH1, recomputedH3, checkSignature}
@@ -43,18 +43,18 @@ module _ {h : List ℕ} {x : Bool} (u g : List ℕ) (refusal rest : Answer) (e :
 
 module _ {S : Shape} {publicKey message s : List ℕ} (f : Files S publicKey s) (m : Bytes message) where
   abbrev salt : List ℕ
-  salt = headPart (aesScheme S) 0 s
+  salt = headPart (schemeOf S) 0 s
 
   abbrev h1 : List ℕ
-  h1 = headPart (aesScheme S) 1 s
+  h1 = headPart (schemeOf S) 1 s
 
   abbrev h3 : List ℕ
-  h3 = headPart (aesScheme S) 2 s
+  h3 = headPart (schemeOf S) 2 s
 
   pub first-right : {start t : Sponge}
       → start ≡ absorbed empty (1 ∷ (publicKey ++ bytesOf 4 (length message) ++ message ++ take (32 - 0) s))
       → t ≡ absorbed start (rows (firstPart S s publicKey) (S .executions))
-      → squeezed (finished t) 32 ≡ recomputedH1 (aesScheme S) publicKey message salt h1 h3 (frameOf (aesScheme S) s)
+      → squeezed (finished t) 32 ≡ recomputedH1 (schemeOf S) publicKey message salt h1 h3 (frameOf (schemeOf S) s)
   unfolding firstHash
   first-right e g =
       hashed (1 ∷ (publicKey ++ bytesOf 4 (length message) ++ message ++ take (32 - 0) s)) (rows (firstPart S s publicKey) (S .executions))
@@ -65,18 +65,18 @@ module _ {S : Shape} {publicKey message s : List ℕ} (f : Files S publicKey s) 
 
   pub third-right : {h2 : List ℕ} {start t : Sponge} → h2 ≡ h2Of S s → start ≡ absorbed empty (3 ∷ h2)
       → t ≡ absorbed start (rows (thirdPart S s publicKey) (S .executions))
-      → squeezed (finished t) 32 ≡ recomputedH3 (aesScheme S) publicKey message salt h1 h3 (frameOf (aesScheme S) s)
+      → squeezed (finished t) 32 ≡ recomputedH3 (schemeOf S) publicKey message salt h1 h3 (frameOf (schemeOf S) s)
   unfolding thirdHash
   third-right k e g =
       hashed (3 ∷ h2Of S s) (rows (thirdPart S s publicKey) (S .executions)) (cons-bytes (lit< tt) (sized-second S _ _ .bytes))
       (rows-bytes (thirdPart S s publicKey) (S .executions) (λ e l. third-bytes f l)) (e ∙ ap (λ x. absorbed empty (3 ∷ x)) k) g
 
   -- both tests
-  pub hashes-tested : {u v : List ℕ} → u ≡ recomputedH1 (aesScheme S) publicKey message salt h1 h3 (frameOf (aesScheme S) s)
-      → v ≡ recomputedH3 (aesScheme S) publicKey message salt h1 h3 (frameOf (aesScheme S) s)
+  pub hashes-tested : {u v : List ℕ} → u ≡ recomputedH1 (schemeOf S) publicKey message salt h1 h3 (frameOf (schemeOf S) s)
+      → v ≡ recomputedH3 (schemeOf S) publicKey message salt h1 h3 (frameOf (schemeOf S) s)
       → require (same u (take (64 - 32) (drop 32 s))) FirstHashDiffers (require (same v (take (96 - 64) (drop 64 s))) ThirdHashDiffers Accepted)
-      ≡ require (same (recomputedH1 (aesScheme S) publicKey message salt h1 h3 (frameOf (aesScheme S) s)) h1) FirstHashDiffers
-      (require (same (recomputedH3 (aesScheme S) publicKey message salt h1 h3 (frameOf (aesScheme S) s)) h3) ThirdHashDiffers Accepted)
+      ≡ require (same (recomputedH1 (schemeOf S) publicKey message salt h1 h3 (frameOf (schemeOf S) s)) h1) FirstHashDiffers
+      (require (same (recomputedH3 (schemeOf S) publicKey message salt h1 h3 (frameOf (schemeOf S) s)) h3) ThirdHashDiffers Accepted)
   hashes-tested p q =
       ap₂ (λ (x y : Bool). require x FirstHashDiffers (require y ThirdHashDiffers Accepted)) (ap₂ same p (h1-is S s)) (ap₂ same q (h3-is S s))
 
@@ -85,15 +85,15 @@ module _ {S : Shape} {publicKey message s : List ℕ} (f : Files S publicKey s) 
 module _ (S : Shape) (publicKey message s : List ℕ) where
   abbrev checked : Answer
   checked =
-      checkSignature (aesScheme S) publicKey message (headPart (aesScheme S) 0 s) (headPart (aesScheme S) 1 s) (headPart (aesScheme S) 2 s)
-      (frameOf (aesScheme S) s)
+      checkSignature (schemeOf S) publicKey message (headPart (schemeOf S) 0 s) (headPart (schemeOf S) 1 s) (headPart (schemeOf S) 2 s)
+      (frameOf (schemeOf S) s)
 
   abbrev compared : Answer
   compared =
-      require (same (recomputedH1 (aesScheme S) publicKey message (headPart (aesScheme S) 0 s) (headPart (aesScheme S) 1 s) (headPart (aesScheme S) 2 s)
-      (frameOf (aesScheme S) s)) (headPart (aesScheme S) 1 s)) FirstHashDiffers
-      (require (same (recomputedH3 (aesScheme S) publicKey message (headPart (aesScheme S) 0 s) (headPart (aesScheme S) 1 s) (headPart (aesScheme S) 2 s)
-      (frameOf (aesScheme S) s)) (headPart (aesScheme S) 2 s)) ThirdHashDiffers Accepted)
+      require (same (recomputedH1 (schemeOf S) publicKey message (headPart (schemeOf S) 0 s) (headPart (schemeOf S) 1 s) (headPart (schemeOf S) 2 s)
+      (frameOf (schemeOf S) s)) (headPart (schemeOf S) 1 s)) FirstHashDiffers
+      (require (same (recomputedH3 (schemeOf S) publicKey message (headPart (schemeOf S) 0 s) (headPart (schemeOf S) 1 s) (headPart (schemeOf S) 2 s)
+      (frameOf (schemeOf S) s)) (headPart (schemeOf S) 2 s)) ThirdHashDiffers Accepted)
 
   pub products-right : {r : Answer} → r ≡ compared → checked ≡ compared → r ≡ checked
   products-right e h = e ∙ sym h

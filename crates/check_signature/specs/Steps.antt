@@ -7,7 +7,7 @@ use Rattle.slices.specs.Bytes.{Sized}
 use Rattle.shake.specs.Shake128.{shake128}
 use Rattle.banquet.specs.declared.Shape.{Shape}
 use Rattle.banquet.specs.Shape.{publicKeyLength, firstChallengeLength, signatureLength}
-use Rattle.banquet.specs.Sets.{aesScheme}
+use Rattle.banquet.specs.Sets.{schemeOf}
 use Rattle.banquet.specs.Hash.{secondHash}
 use Rattle.banquet.specs.Signature.{headPart, frameOf, framePart, frameH1Part, frameH3Part}
 use Rattle.sets.specs.Valid.{Valid}
@@ -20,17 +20,17 @@ pub record Files (S : Shape) (publicKey s : List ℕ) : Type 0 where
 
 module _ (S : Shape) (s : List ℕ) where
   abbrev salt : List ℕ
-  salt = headPart (aesScheme S) 0 s
+  salt = headPart (schemeOf S) 0 s
 
   abbrev h1 : List ℕ
-  h1 = headPart (aesScheme S) 1 s
+  h1 = headPart (schemeOf S) 1 s
 
   abbrev h3 : List ℕ
-  h3 = headPart (aesScheme S) 2 s
+  h3 = headPart (schemeOf S) 2 s
 
   -- the signature's own h2: "2: h1, all product offsets"
   abbrev pub h2Of : List ℕ
-  h2Of = secondHash (aesScheme S) h1 (λ e. framePart (aesScheme S) (frameOf (aesScheme S) s e) 4)
+  h2Of = secondHash (schemeOf S) h1 (λ e. framePart (schemeOf S) (frameOf (schemeOf S) s e) 4)
 
   -- "Every number drawn from 6, 7 or 8 ..": the bytes that are drawn for all executions, at the front of what is given
   pub record Drawn (firsts seconds thirds : List ℕ) : Type 0 where
@@ -41,7 +41,7 @@ module _ (S : Shape) (s : List ℕ) where
   -- what h1 and h3 bind of execution e
   module _ (publicKey : List ℕ) where
     abbrev pub firstPart : ℕ → List ℕ
-    firstPart e = frameH1Part (aesScheme S) publicKey salt h3 e (frameOf (aesScheme S) s e)
+    firstPart e = frameH1Part (schemeOf S) publicKey salt h3 e (frameOf (schemeOf S) s e)
 
     abbrev pub thirdPart : ℕ → List ℕ
-    thirdPart e = frameH3Part (aesScheme S) publicKey salt h3 e (frameOf (aesScheme S) s e) h1 h2Of
+    thirdPart e = frameH3Part (schemeOf S) publicKey salt h3 e (frameOf (schemeOf S) s e) h1 h2Of

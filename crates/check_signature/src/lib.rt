@@ -9,7 +9,7 @@ ghost use Rattle.slices.specs.Lists.{rows as rowsOf, same};
 ghost use Rattle.slices.specs.Layout.{total};
 ghost use Rattle.stream.specs.Stream.{absorbed, finished, squeezed};
 ghost use Rattle.banquet.specs.declared.Answer.the-variants.{Accepted, FirstHashDiffers, ThirdHashDiffers};
-ghost use Rattle.banquet.specs.Sets.{aesScheme};
+ghost use Rattle.banquet.specs.Sets.{schemeOf};
 ghost use Rattle.banquet.specs.Answer.{require};
 ghost use Rattle.banquet.specs.Signature.{headPart, frameOf, recomputedH1, recomputedH3, checkSignature};
 ghost use Rattle.banquet.specs.Calls.{verify};
@@ -78,9 +78,9 @@ fn recomputed(
     let f = n * (shape.m1 * shape.wide);
     let w = n * shape.wide;
     let p = n * 4;
-    let mut firsts = [0u8; 15360];
-    let mut seconds = [0u8; 1536];
-    let mut thirds = [0u8; 1024];
+    let mut firsts = [0u8; 2460];
+    let mut seconds = [0u8; 246];
+    let mut thirds = [0u8; 164];
     hash_inputs::draw(6, &s[32..64], &mut firsts[0..f]);
     hash_inputs::draw(7, h2, &mut seconds[0..w]);
     hash_inputs::draw(8, &s[64..96], &mut thirds[0..p]);
@@ -130,12 +130,12 @@ fn check_hashes(
     requires { ⌜ Files shape (now public) (now s) × (now h2 ≡ h2Of shape (now s)) × (length (now commitments) ≡ shape .parties * 32)
         × (length (now rows) ≡ shape .parties * total (rowSizes shape)) ⌝ }
     ensures { λ r. ⌜ r
-        ≡ require (same (recomputedH1 (aesScheme shape) (now (public .entry)) (now (message .entry)) (headPart (aesScheme shape) 0 (now (s .entry)))
-        (headPart (aesScheme shape) 1 (now (s .entry))) (headPart (aesScheme shape) 2 (now (s .entry))) (frameOf (aesScheme shape) (now (s .entry))))
-        (headPart (aesScheme shape) 1 (now (s .entry)))) FirstHashDiffers
-        (require (same (recomputedH3 (aesScheme shape) (now (public .entry)) (now (message .entry)) (headPart (aesScheme shape) 0 (now (s .entry)))
-        (headPart (aesScheme shape) 1 (now (s .entry))) (headPart (aesScheme shape) 2 (now (s .entry))) (frameOf (aesScheme shape) (now (s .entry))))
-        (headPart (aesScheme shape) 2 (now (s .entry)))) ThirdHashDiffers Accepted) ⌝ }
+        ≡ require (same (recomputedH1 (schemeOf shape) (now (public .entry)) (now (message .entry)) (headPart (schemeOf shape) 0 (now (s .entry)))
+        (headPart (schemeOf shape) 1 (now (s .entry))) (headPart (schemeOf shape) 2 (now (s .entry))) (frameOf (schemeOf shape) (now (s .entry))))
+        (headPart (schemeOf shape) 1 (now (s .entry)))) FirstHashDiffers
+        (require (same (recomputedH3 (schemeOf shape) (now (public .entry)) (now (message .entry)) (headPart (schemeOf shape) 0 (now (s .entry)))
+        (headPart (schemeOf shape) 1 (now (s .entry))) (headPart (schemeOf shape) 2 (now (s .entry))) (frameOf (schemeOf shape) (now (s .entry))))
+        (headPart (schemeOf shape) 2 (now (s .entry)))) ThirdHashDiffers Accepted) ⌝ }
 {
     let start = Hashes {
         first: hash_inputs::first_input(public, message, &s[0..32]),
@@ -148,8 +148,8 @@ fn check_hashes(
 // Number 15, and then those.
 fn check_products(shape: Shape, public: &[u8], message: &[u8], s: &[u8], work: &mut [u8]) -> Answer
     requires { ⌜ Files shape (now public) (now s) × (65536 ≤ length (now work)) ⌝ }
-    ensures { λ r. ⌜ r ≡ checkSignature (aesScheme shape) (now (public .entry)) (now (message .entry)) (headPart (aesScheme shape) 0 (now (s .entry)))
-        (headPart (aesScheme shape) 1 (now (s .entry))) (headPart (aesScheme shape) 2 (now (s .entry))) (frameOf (aesScheme shape) (now (s .entry))) ⌝ }
+    ensures { λ r. ⌜ r ≡ checkSignature (schemeOf shape) (now (public .entry)) (now (message .entry)) (headPart (schemeOf shape) 0 (now (s .entry)))
+        (headPart (schemeOf shape) 1 (now (s .entry))) (headPart (schemeOf shape) 2 (now (s .entry))) (frameOf (schemeOf shape) (now (s .entry))) ⌝ }
     ensures { λ _. ⌜ Scratch (now (work .entry)) (now (work .exit)) ⌝ }
 {
     let found = frame_products::first_product(shape, s);
@@ -174,9 +174,9 @@ fn check_products(shape: Shape, public: &[u8], message: &[u8], s: &[u8], work: &
 // The call, which refuses by lengths first.
 pub fn check(shape: Shape, public: &[u8], message: &[u8], s: &[u8], work: &mut [u8]) -> Answer
     requires { ⌜ Valid shape ⌝ }
-    ensures { λ r. ⌜ r ≡ verify (aesScheme shape) (now (public .entry)) (now (message .entry)) (now (s .entry)) (now (work .entry)) .answer ⌝ }
+    ensures { λ r. ⌜ r ≡ verify (schemeOf shape) (now (public .entry)) (now (message .entry)) (now (s .entry)) (now (work .entry)) .answer ⌝ }
     ensures { λ _. ⌜ now (work .exit)
-        ≡ verify (aesScheme shape) (now (public .entry)) (now (message .entry)) (now (s .entry)) (now (work .entry)) .work ⌝ }
+        ≡ verify (schemeOf shape) (now (public .entry)) (now (message .entry)) (now (s .entry)) (now (work .entry)) .work ⌝ }
 {
     if public.len() != 32 {
         return Answer::PublicKeyLength;

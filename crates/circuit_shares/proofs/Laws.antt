@@ -8,9 +8,11 @@ use Rattle.slices.specs.Lists.{zipXor}
 use Rattle.poly.specs.Index.{at, at-same, at-other, at-cases}
 use Rattle.circuit.specs.Circuit.{share, party, inputShares as inputsOf, outputShare as outputOf}
 use Rattle.banquet.specs.declared.Shape.{Shape}
-use Rattle.banquet.specs.Sets.{aesScheme}
+use Rattle.banquet.specs.Scheme.{Circuit}
+use Rattle.banquet.specs.Sets.{schemeOf}
 use Rattle.banquet.specs.Execution.{Committed, tapePart, keyShare, inverseShares, inputShares, outputShare}
 use Rattle.sets.specs.Valid.{Valid}
+use Rattle.sets.specs.Circuit.{circuit-is}
 use Rattle.forms.specs.Party.{committed, own}
 
 -- ---- a party's own shares
@@ -33,19 +35,23 @@ party-is (suc i) k y = ap (λ o. share o k y) (at-other (suc i) 0 1 0 (λ e. ome
 
 module _ {S : Shape} (v : Valid S) where
   module _ (front key inverse t : List ℕ) (i : ℕ) {one : ℕ} {p q mine inv : List ℕ} (o : one ≡ at i 0 1 0)
-      (e : p ≡ tapePart (aesScheme S) 0 t) (f : mine ≡ own i p key) (e′ : q ≡ tapePart (aesScheme S) 1 t) (f′ : inv ≡ own i q inverse) where
+      (e : p ≡ tapePart (schemeOf S) 0 t) (f : mine ≡ own i p key) (e′ : q ≡ tapePart (schemeOf S) 1 t) (f′ : inv ≡ own i q inverse) where
     abbrev x : Committed
     x = committed front key inverse
 
-    inverses-are : inv ≡ inverseShares (aesScheme S) x i t
+    inverses-are : inv ≡ inverseShares (schemeOf S) x i t
     inverses-are = f′ ∙ ap (λ s. own i s inverse) e′
 
-    whole : share one mine inv ≡ party i (keyShare (aesScheme S) x i t) (inverseShares (aesScheme S) x i t)
+    whole : share one mine inv ≡ party i (keyShare (schemeOf S) x i t) (inverseShares (schemeOf S) x i t)
     whole =
         ap (λ n. share n mine inv) o ∙ ap₂ (share (at i 0 1 0)) (f ∙ ap (λ s. own i s key) e) inverses-are
-        ∙ party-is i (keyShare (aesScheme S) x i t) (inverseShares (aesScheme S) x i t)
+        ∙ party-is i (keyShare (schemeOf S) x i t) (inverseShares (schemeOf S) x i t)
 
     pub walked : {r inputs : List ℕ} → r ≡ outputOf (share one mine inv) → inputs ≡ inputsOf front (share one mine inv)
-        → (r ≡ outputShare (aesScheme S) x i t) × ((inv ≡ inverseShares (aesScheme S) x i t) × (inputs ≡ inputShares (aesScheme S) x i t))
+        → (r ≡ outputShare (schemeOf S) x i t) × ((inv ≡ inverseShares (schemeOf S) x i t) × (inputs ≡ inputShares (schemeOf S) x i t))
     unfolding outputShare inputShares
-    walked h k = (h ∙ ap outputOf whole, (inverses-are, k ∙ ap (inputsOf front) whole))
+    walked h k =
+        let y = party i (keyShare (schemeOf S) x i t) (inverseShares (schemeOf S) x i t) in (
+          h ∙ ap outputOf whole ∙ ap (λ (c : Circuit). c .outputShare front y) (sym (circuit-is v)),
+          (inverses-are, k ∙ ap (inputsOf front) whole ∙ ap (λ (c : Circuit). c .inputShares front y) (sym (circuit-is v))),
+        )

@@ -4,8 +4,8 @@ ghost use mathlib.Core.Path.{_≡_};
 ghost use lib.ListN.{length};
 ghost use Rattle.slices.specs.Layout.{total};
 ghost use Rattle.poly.specs.Index.{at};
-ghost use Rattle.banquet.specs.Shape.{tapeSizes};
-ghost use Rattle.banquet.specs.Sets.{aesScheme};
+ghost use Rattle.banquet.specs.Shape.{sboxes, tapeSizes};
+ghost use Rattle.banquet.specs.Sets.{schemeOf};
 ghost use Rattle.banquet.specs.Execution.{inverseShares, inputShares, outputShare};
 ghost use Rattle.sets.specs.Valid.{Valid};
 ghost use Rattle.forms.specs.Party.{committed, own as ownShare};
@@ -40,14 +40,14 @@ pub fn walk(
     inverses: &mut [u8],
     inputs: &mut [u8],
 ) -> [u8; 16]
-    requires { ⌜ Valid shape × (length (now front) ≡ 16) × (length (now key) ≡ 16) × (length (now inverse) ≡ 200)
-        × (length (now tape) ≡ total (tapeSizes shape)) × (length (now inverses) ≡ 200) × (length (now inputs) ≡ 200) ⌝ }
+    requires { ⌜ Valid shape × (length (now front) ≡ shape .front) × (length (now key) ≡ 16) × (length (now inverse) ≡ sboxes shape)
+        × (length (now tape) ≡ total (tapeSizes shape)) × (length (now inverses) ≡ sboxes shape) × (length (now inputs) ≡ sboxes shape) ⌝ }
     ensures { λ r. ⌜ r
-        ≡ outputShare (aesScheme shape) (committed (now (front .entry)) (now (key .entry)) (now (inverse .entry))) i (now (tape .entry)) ⌝ }
+        ≡ outputShare (schemeOf shape) (committed (now (front .entry)) (now (key .entry)) (now (inverse .entry))) i (now (tape .entry)) ⌝ }
     ensures { λ _. ⌜ now (inverses .exit)
-        ≡ inverseShares (aesScheme shape) (committed (now (front .entry)) (now (key .entry)) (now (inverse .entry))) i (now (tape .entry)) ⌝ }
+        ≡ inverseShares (schemeOf shape) (committed (now (front .entry)) (now (key .entry)) (now (inverse .entry))) i (now (tape .entry)) ⌝ }
     ensures { λ _. ⌜ now (inputs .exit)
-        ≡ inputShares (aesScheme shape) (committed (now (front .entry)) (now (key .entry)) (now (inverse .entry))) i (now (tape .entry)) ⌝ }
+        ≡ inputShares (schemeOf shape) (committed (now (front .entry)) (now (key .entry)) (now (inverse .entry))) i (now (tape .entry)) ⌝ }
 {
     let mut share = [0u8; 16];
     own(i, tapes::tape_part(shape, 0, tape), key, &mut share);

@@ -1,18 +1,13 @@
 -- A list put into another, the front of which is added to and read. Assumes nothing.
-use mathlib.Core.Path.{_≡_, refl, sym, ap, ap₂, _∙_}
-use mathlib.Core.List.{List, [], _∷_, _++_, append-nil, append-assoc}
+use mathlib.Core.Path.{_≡_, sym, ap, ap₂, _∙_}
+use mathlib.Core.List.{List, [], _++_, append-nil, append-assoc}
 use Prim.Native.Nat.{ℕ, _+_, _-_, _≤_}
 use native.Mathlib.Omega.{arith}
 use lib.ListN.{length, take, drop, length-drop, take-append-drop}
 use lib.Seq.{take-at, drop-at, drop-drop, take-append-le, drop-append-le, length-take-le}
 use borrow.Rule.Slice.PartMut.{putMid}
 use Rattle.slices.specs.Lists.{part, put, zipXor}
-use Rattle.slices.specs.Sums.{length-zip-max, zip-append}
-
-zip-nil : (xs : List ℕ) → zipXor xs [] ≡ xs
-unfolding zipXor
-zip-nil [] = refl
-zip-nil (x ∷ xs) = refl
+use Rattle.slices.specs.Sums.{zip-nil, length-zip-max, zip-append}
 
 -- a front added to is the whole added to
 zip-front : (n : ℕ) (xs ys : List ℕ) → length ys ≡ n → n ≤ length xs → zipXor (take n xs) ys ++ drop n xs ≡ zipXor xs ys
@@ -21,18 +16,18 @@ zip-front n xs ys h l =
     ∙ zip-append (take n xs) ys (drop n xs) [] (length-take-le n xs l ∙ sym h)
     ∙ ap₂ zipXor (take-append-drop n xs) (append-nil ys)
 
-module _ (k n m : ℕ) (d y w : List ℕ) (h : length y ≡ n + m) (l : length w ≡ n) (room : k + n + m ≤ length d) where
-  -- y was lent as `&mut d[k..k + n + m]`
+module _ (k n m : ℕ) (d y w : List ℕ) (h : length y ≡ m) (l : length w ≡ n) (fits : n ≤ m) (room : k + m ≤ length d) where
+  -- y was lent as `&mut d[k..k + m]`
   abbrev lent : List ℕ
-  lent = putMid k (k + n + m - k) d y
+  lent = putMid k (k + m - k) d y
 
   front-size : length (take k d) ≡ k
   front-size = length-take-le k d (omega arith)
 
-  behind : drop k lent ≡ y ++ drop (k + (n + m)) d
+  behind : drop k lent ≡ y ++ drop (k + m) d
   behind =
-      let e : k + n + m - k ≡ n + m = omega arith in
-      rw (e, drop-drop (n + m) k d) (drop-at (take k d) (y ++ drop (k + (n + m)) d) k front-size)
+      let e : k + m - k ≡ m = omega arith in
+      rw (e, drop-drop m k d) (drop-at (take k d) (y ++ drop (k + m) d) k front-size)
 
   less : n ≤ length y
   less = omega arith
@@ -43,7 +38,7 @@ module _ (k n m : ℕ) (d y w : List ℕ) (h : length y ≡ n + m) (l : length w
     added =
         let one : k + n - k ≡ n = omega arith in
         e ∙ ap (λ i. zipXor (take i (drop k lent)) w) one ∙ ap (λ s. zipXor (take n s) w) behind
-        ∙ ap (λ s. zipXor s w) (take-append-le n y (drop (k + (n + m)) d) less)
+        ∙ ap (λ s. zipXor s w) (take-append-le n y (drop (k + m) d) less)
 
     pub front-is : z ≡ take n (zipXor y w)
     front-is =
@@ -54,13 +49,13 @@ module _ (k n m : ℕ) (d y w : List ℕ) (h : length y ≡ n + m) (l : length w
     unfolding put
     front-added =
         let one : k + n - k ≡ n = omega arith in
-        let size : length (zipXor y w) ≡ n + m = rw (length-zip-max y w) (omega arith) in
-        let end : drop (k + (n + m)) d ≡ drop (k + length (zipXor y w)) d = ap (λ i. drop (k + i) d) (sym size) in
-        let rest : drop (k + n - k) (drop k lent) ≡ drop n y ++ drop (k + (n + m)) d =
-        ap (λ i. drop i (drop k lent)) one ∙ ap (drop n) behind ∙ drop-append-le n y (drop (k + (n + m)) d) less in
+        let size : length (zipXor y w) ≡ m = rw (length-zip-max y w) (omega arith) in
+        let end : drop (k + m) d ≡ drop (k + length (zipXor y w)) d = ap (λ i. drop (k + i) d) (sym size) in
+        let rest : drop (k + n - k) (drop k lent) ≡ drop n y ++ drop (k + m) d =
+        ap (λ i. drop i (drop k lent)) one ∙ ap (drop n) behind ∙ drop-append-le n y (drop (k + m) d) less in
         ap₂ (λ a b. a ++ (z ++ b)) (take-at (take k d) _ k front-size) rest
         ∙ ap (take k d ++_)
-        (sym (append-assoc z (drop n y) (drop (k + (n + m)) d))
+        (sym (append-assoc z (drop n y) (drop (k + m) d))
         ∙ ap₂ _++_ (ap (_++ drop n y) added ∙ zip-front n y w l less) end)
 
 -- part of a front

@@ -12,11 +12,11 @@ use Rattle.party.specs.Party.{partyHash}
 use Rattle.party.proofs.Laws.{length-hash}
 use Rattle.banquet.specs.declared.Shape.{Shape}
 use Rattle.banquet.specs.Shape.{transcriptSizes}
-use Rattle.banquet.specs.Sets.{aesScheme}
+use Rattle.banquet.specs.Sets.{schemeOf}
 use Rattle.banquet.specs.Hash.{commitment}
 use Rattle.banquet.specs.Opening.{saltOf, commitmentOf}
 
-hashed : (S : Shape) (salt : List ℕ) (e i : ℕ) (seed : List ℕ) → partyHash 0 salt e i seed 32 ≡ commitment (aesScheme S) salt e i seed
+hashed : (S : Shape) (salt : List ℕ) (e i : ℕ) (seed : List ℕ) → partyHash 0 salt e i seed 32 ≡ commitment (schemeOf S) salt e i seed
 unfolding partyHash commitment
 hashed S salt e i seed = refl
 
@@ -25,13 +25,13 @@ module _ (S : Shape) (t seeds : List ℕ) (e : ℕ) where
 
   -- party i's commitment, worked out
   abbrev committed : ℕ → List ℕ
-  committed i = commitment (aesScheme S) (saltOf (aesScheme S) t) e i (row 16 i seeds)
+  committed i = commitment (schemeOf S) (saltOf (schemeOf S) t) e i (row 16 i seeds)
 
   module _ {sizes salt made : List ℕ} (z : sizes ≡ transcriptSizes S) (s : salt ≡ field sizes 0 t)
       (m : made ≡ rows (λ i. partyHash 0 salt e i (row 16 i seeds) 32) parties) where
     row-hashed : (i : ℕ) → partyHash 0 salt e i (row 16 i seeds) 32 ≡ committed i
     row-hashed i =
-        hashed S salt e i (row 16 i seeds) ∙ ap (λ x. commitment (aesScheme S) x e i (row 16 i seeds)) (s ∙ ap (λ l. field l 0 t) z)
+        hashed S salt e i (row 16 i seeds) ∙ ap (λ x. commitment (schemeOf S) x e i (row 16 i seeds)) (s ∙ ap (λ l. field l 0 t) z)
 
     -- all of them
     pub all-hashed : made ≡ rows committed parties
@@ -40,7 +40,7 @@ module _ (S : Shape) (t seeds : List ℕ) (e : ℕ) where
     -- the lowest shown party whose commitment differs
     pub differing : (hidden : ℕ) {stated : List ℕ} {found : ℕ} → stated ≡ field sizes 2 t
         → found ≡ lowest parties 0 (λ i. eqb i hidden || same (row 32 i made) (row 32 i stated))
-        → found ≡ lowest parties 0 (λ i. eqb i hidden || same (committed i) (commitmentOf (aesScheme S) t i))
+        → found ≡ lowest parties 0 (λ i. eqb i hidden || same (committed i) (commitmentOf (schemeOf S) t i))
     differing hidden c f =
         f ∙ lowest-cong parties (λ i l. ap (eqb i hidden ||_)
         (ap₂ same

@@ -9,7 +9,7 @@ ghost use Rattle.slices.specs.Lists.{rows, row, same};
 ghost use Rattle.slices.specs.Layout.{total};
 ghost use Rattle.compare.specs.Lowest.{lowest};
 ghost use Rattle.banquet.specs.Shape.{transcriptSizes};
-ghost use Rattle.banquet.specs.Sets.{aesScheme};
+ghost use Rattle.banquet.specs.Sets.{schemeOf};
 ghost use Rattle.banquet.specs.Hash.{commitment};
 ghost use Rattle.banquet.specs.Opening.{saltOf, executionOf, commitmentOf};
 ghost use Rattle.sets.specs.Valid.{Valid};
@@ -23,14 +23,14 @@ pub fn first_commitment(
     seeds: &[u8],
     scratch: &mut [u8],
 ) -> usize
-    requires { ⌜ Valid shape × (length (now transcript) ≡ total (transcriptSizes shape)) × (e ≡ executionOf (aesScheme shape) (now transcript))
+    requires { ⌜ Valid shape × (length (now transcript) ≡ total (transcriptSizes shape)) × (e ≡ executionOf (schemeOf shape) (now transcript))
         × (shape .parties * 16 ≤ length (now seeds)) × (length (now scratch) ≡ shape .parties * 32) ⌝ }
     ensures { λ r. ⌜ r
         ≡ lowest (shape .parties) 0 (λ i. eqb i hidden
-        || same (commitment (aesScheme shape) (saltOf (aesScheme shape) (now (transcript .entry))) e i (row 16 i (now (seeds .entry))))
-        (commitmentOf (aesScheme shape) (now (transcript .entry)) i)) ⌝ }
+        || same (commitment (schemeOf shape) (saltOf (schemeOf shape) (now (transcript .entry))) e i (row 16 i (now (seeds .entry))))
+        (commitmentOf (schemeOf shape) (now (transcript .entry)) i)) ⌝ }
     ensures { λ _. ⌜ now (scratch .exit)
-        ≡ rows (λ i. commitment (aesScheme shape) (saltOf (aesScheme shape) (now (transcript .entry))) e i (row 16 i (now (seeds .entry))))
+        ≡ rows (λ i. commitment (schemeOf shape) (saltOf (schemeOf shape) (now (transcript .entry))) e i (row 16 i (now (seeds .entry))))
         (shape .parties) ⌝ }
 {
     let sizes = opening_sizes::transcript_sizes(shape);

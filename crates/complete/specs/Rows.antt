@@ -2,32 +2,18 @@
 use mathlib.Core.Path.{_≡_, refl, sym, ap, ap₂, _∙_}
 use mathlib.Core.List.{List, [], _∷_, _++_, append-nil, append-assoc}
 use Prim.Native.Nat.{ℕ, zero, suc, _+_, _*_, _<_, _≤_}
-use native.Mathlib.Nat.{zero-mul, suc-mul, mul-le-mul-right}
 use native.Mathlib.Decide.{ℕ-discrete}
 use native.Mathlib.Omega.{arith}
-use lib.Bits.{bitXor, xor-comm}
-use lib.ListN.{length, take, drop, length-append, length-drop, drop-of-length-le}
-use lib.Seq.{take-all, take-add, take-at, take-append-le, drop-append-le, length-take-le}
+use lib.ListN.{length, drop, length-append, length-drop, drop-of-length-le}
+use lib.Seq.{take-all, take-at, take-append-le, drop-append-le, length-take-le}
 use Rattle.slices.specs.Lists.{rows, row, put, zipXor, sumXor}
 use Rattle.slices.specs.Xor.{xor-assoc}
-use Rattle.slices.specs.Tab.{length-rows, rows-cong, row-of-rows}
-use Rattle.slices.specs.Sums.{sumXor-cong}
+use Rattle.slices.specs.Tab.{row-fits, length-rows, rows-cong, row-of-rows, rows-of}
+use Rattle.slices.specs.Sums.{zip-nil, zip-comm, sumXor-cong}
 use Rattle.poly.specs.Index.{at, at-same, at-other, at-cases}
 use Rattle.complete.specs.Complete.{completedRow}
 
 -- ---- the sum of lists
-
-zip-nil : (xs : List ℕ) → zipXor xs [] ≡ xs
-unfolding zipXor
-zip-nil [] = refl
-zip-nil (x ∷ xs) = refl
-
-zip-comm : (xs ys : List ℕ) → zipXor xs ys ≡ zipXor ys xs
-unfolding zipXor
-zip-comm [] [] = refl
-zip-comm [] (y ∷ ys) = refl
-zip-comm (x ∷ xs) [] = refl
-zip-comm (x ∷ xs) (y ∷ ys) = ap₂ _∷_ (xor-comm x y) (zip-comm xs ys)
 
 zip-assoc : (xs ys zs : List ℕ) → zipXor (zipXor xs ys) zs ≡ zipXor xs (zipXor ys zs)
 unfolding zipXor
@@ -54,18 +40,6 @@ sum-apart (suc n) h s f l = go (ℕ-discrete n h) (sum-apart n h s f)
     go (no ne) ih =
         ap₂ zipXor (ih (omega arith)) (at-other n h s (f n) ne) ∙ zip-assoc s (sumXor n (λ k. at k h [] (f k))) (f n)
         ∙ ap (λ t. zipXor s (zipXor (sumXor n (λ k. at k h [] (f k))) t)) (sym (at-other n h [] (f n) ne))
-
--- ---- a list is its rows
-
-rows-of : (w n : ℕ) (s : List ℕ) → length s ≡ n * w → s ≡ rows (λ k. row w k s) n
-rows-of w n s h = sym (take-all (n * w) s (omega arith)) ∙ front n
-  where
-    front : (n : ℕ) → take (n * w) s ≡ rows (λ k. row w k s) n
-    front zero = ap (λ m. take m s) (zero-mul w)
-    front (suc n) = ap (λ m. take m s) (suc-mul n w) ∙ take-add (n * w) w s ∙ ap (_++ row w n s) (front n)
-
-row-ends : (w : ℕ) {k n : ℕ} → k < n → k * w + w ≤ n * w
-row-ends w {k} {n} l = let e : suc k * w ≤ n * w = mul-le-mul-right w l in omega (arith, e, suc-mul k w)
 
 -- ---- a row replaced
 
@@ -102,7 +76,7 @@ put-row w f s (suc n) h k e l = go (ℕ-discrete n h) (put-row w f s n h (λ i m
         whole = ap₂ (λ x y. x ++ (s ++ y)) (take-at (rows f n) (f n) (h * w) place) none ∙ ap (rows f n ++_) (append-nil s)
     go (no ne) ih =
         let below : h < n = omega arith in
-        put-append (rows f n) (f n) s (h * w) (omega (arith, row-ends w below, e, long))
+        put-append (rows f n) (f n) s (h * w) (omega (arith, row-fits w below, e, long))
         ∙ ap₂ _++_ (ih (omega arith)) (sym (at-other n h s (f n) ne))
 
 -- ---- rows completed
@@ -121,12 +95,12 @@ module _ (n w h : ℕ) (d whole : List ℕ) (long : length d ≡ n * w) (size : 
   rest = zipXor whole (sumXor n (λ k. at k h [] (f k)))
 
   f-long : (i : ℕ) → i < n → length (f i) ≡ w
-  f-long i m = length-take-le w (drop (i * w) d) (omega (arith, row-ends w m, length-drop (i * w) d))
+  f-long i m = length-take-le w (drop (i * w) d) (omega (arith, row-fits w m, length-drop (i * w) d))
 
   -- the whole stands for the hidden row
   module _ {d′ : List ℕ} (is : d′ ≡ put d (h * w) whole) where
     first : d′ ≡ rows (λ i. at i h whole (f i)) n
-    first = is ∙ ap (λ x. put x (h * w) whole) (rows-of w n d long) ∙ put-row w f whole n h f-long size l
+    first = is ∙ ap (λ x. put x (h * w) whole) (sym (take-all (n * w) d (omega arith)) ∙ rows-of w n d) ∙ put-row w f whole n h f-long size l
 
     first-long : (i : ℕ) → i < n → length (at i h whole (f i)) ≡ w
     first-long i m = at-cases (λ x. length x ≡ w) i h whole (f i) (λ q. size) (λ q. f-long i m)

@@ -5,8 +5,8 @@ ghost use Prim.Native.Nat.{_*_, _^_, _<_, _≤_};
 ghost use lib.ListN.{length};
 ghost use Rattle.slices.specs.Lists.{rows, row};
 ghost use Rattle.slices.specs.Layout.{total};
-ghost use Rattle.banquet.specs.Shape.{tapeSizes, productPoints, firstChallengeLength};
-ghost use Rattle.banquet.specs.Sets.{aesScheme};
+ghost use Rattle.banquet.specs.Shape.{sboxes, productPoints, firstChallengeLength};
+ghost use Rattle.banquet.specs.Sets.{schemeOf};
 ghost use Rattle.banquet.specs.Hash.{tape as tapeOf};
 ghost use Rattle.banquet.specs.Execution.{challenge};
 ghost use Rattle.sets.specs.Valid.{Valid};
@@ -37,10 +37,9 @@ fn seed_rows(
     ensures { λ _. ⌜ now (out .exit)
         ≡ rows (λ i. workedRow shape (committed (now (front .entry)) (now (key .entry)) (now (inverse .entry)))
         (now (product .entry)) (now (first .entry)) (now (far .entry)) given (now (tables .entry)) last i
-        (tapeOf (aesScheme shape) (now (salt .entry)) e i (row 16 i (now (seeds .entry))))) (shape .parties) ⌝ }
+        (tapeOf (schemeOf shape) (now (salt .entry)) e i (row 16 i (now (seeds .entry))))) (shape .parties) ⌝ }
 {
-    let sizes = sets::tape_sizes(shape);
-    let size = fields::offset(&sizes, 4);
+    let size = sets::tape_length(shape);
     let len = sets::row_length(shape);
     let mut room = [0u8; 462];
     let tape = &mut room[0..size];
@@ -83,28 +82,29 @@ pub fn share_rows(
     second: u64,
     out: &mut [u8],
 )
-    requires { ⌜ Valid shape × (length (now salt) ≡ 32) × (shape .parties * 16 ≤ length (now seeds)) × (length (now front) ≡ 16)
-        × (length (now key) ≡ 16) × (length (now inverse) ≡ 200) × (length (now first) ≡ firstChallengeLength shape)
+    requires { ⌜ Valid shape × (length (now salt) ≡ 32) × (shape .parties * 16 ≤ length (now seeds)) × (length (now front) ≡ shape .front)
+        × (length (now key) ≡ 16) × (length (now inverse) ≡ sboxes shape) × (length (now first) ≡ firstChallengeLength shape)
         × (length (now product) ≡ productPoints shape * shape .wide) × (second < 2 ^ (8 * shape .wide))
         × (length (now out) ≡ shape .parties * total (rowSizes shape)) ⌝ }
     ensures { λ _. ⌜ now (out .exit)
-        ≡ rows (λ i. shareRow (aesScheme shape) (committed (now (front .entry)) (now (key .entry)) (now (inverse .entry)))
-        (challenge (aesScheme shape) (now (first .entry)) (now (product .entry)) second) i
-        (tapeOf (aesScheme shape) (now (salt .entry)) e i (row 16 i (now (seeds .entry))))) (shape .parties) ⌝ }
+        ≡ rows (λ i. shareRow (schemeOf shape) (committed (now (front .entry)) (now (key .entry)) (now (inverse .entry)))
+        (challenge (schemeOf shape) (now (first .entry)) (now (product .entry)) second) i
+        (tapeOf (schemeOf shape) (now (salt .entry)) e i (row 16 i (now (seeds .entry))))) (shape .parties) ⌝ }
 {
     let bits = (8 * shape.wide) as u32;
     let mut tables = [0u64; 640];
     let last = points::tables(shape, second, &mut tables);
     let mut far = [0u64; 41];
     points::far_values(shape, second, &mut far);
-    let mut draws = [0u64; 10];
-    elements::load(shape.wide, first, &mut draws);
-    let drawn = &draws[..];
+    let m = shape.m1;
+    let mut drawn = [0u64; 10];
+    let draws = &mut drawn[0..m];
+    elements::load(shape.wide, first, draws);
     let given = gf::mul(
         bits,
         shape.low,
         opened::sum(&far[0..20]),
-        opened::sum(drawn),
+        opened::sum(draws),
     );
     seed_rows(
         shape,
@@ -115,7 +115,7 @@ pub fn share_rows(
         key,
         inverse,
         product,
-        drawn,
+        draws,
         &far[20..41],
         given,
         &tables,

@@ -1,7 +1,7 @@
 -- Where field k of a layout lies: it begins where the sizes before it end. Assumes nothing.
 use mathlib.Core.Path.{_≡_, refl, sym, ap, _∙_}
 use mathlib.Core.List.{List, [], _∷_}
-use Prim.Native.Nat.{ℕ, zero, suc, _+_, _-_, _≤_}
+use Prim.Native.Nat.{ℕ, zero, suc, _+_, _-_, _^_, _≤_, _<_}
 use native.Mathlib.Numerals.{add-one}
 use native.Mathlib.Omega.{arith}
 use lib.ListN.{length, getD, take, drop, length-drop}
@@ -34,6 +34,18 @@ total-take-all [] zero h = refl
 total-take-all [] (suc k) h = refl
 total-take-all (n ∷ sizes) zero h = absurd (omega arith)
 total-take-all (n ∷ sizes) (suc k) h = ap (n +_) (total-take-all sizes k (omega arith))
+
+-- ---- sizes that were worked out, where those of the layout have a bounded total
+
+module _ {sizes layout : List ℕ} {most : ℕ} (is : sizes ≡ layout) (bound : total layout ≤ most) where
+  pub sizes-fit : most < 2 ^ 63 → total sizes < 2 ^ 63
+  sizes-fit h = rw is (omega (arith, bound, h))
+
+  -- where field k begins, or the last ends
+  pub offset-is : {n : ℕ} (k : ℕ) → n ≡ total (take k sizes) → (n ≡ total (take k layout)) × (n ≤ most)
+  offset-is k h =
+      let e = h ∙ ap (λ s. total (take k s)) is in
+      (e, rw e (omega (arith, total-take-le layout k, bound)))
 
 -- ---- the field
 

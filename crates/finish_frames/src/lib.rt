@@ -18,8 +18,8 @@ fn finish_frame(shape: Shape, salt: &[u8], e: u8, root: &[u8], hidden: usize, fr
     ensures { λ _. ⌜ now (frame .exit) ≡ finishedFrame shape (now (salt .entry)) (now (root .entry)) e hidden (now (frame .entry)) ⌝ }
 {
     let seeds = leaf_seeds::leaf_seeds(shape, salt, e, root);
-    let d = shape.depth * 16;
-    let k = d + 32;
+    let d = frames::offset(shape, 1);
+    let k = frames::offset(shape, 2);
     let a = hidden * 16;
     let b = a + 16;
     siblings::sibling_seeds(shape.depth, salt, e, 0, root, hidden, &mut frame[0..d]);
@@ -34,7 +34,7 @@ pub fn finish_frames(shape: Shape, salt: &[u8], roots: &[u8], thirds: &[u8], fra
         ≡ rows (λ e. finishedFrame shape (now (salt .entry)) (row 16 e (now (roots .entry))) e
         (partyOf (shape .parties) (numberAt 4 e (now (thirds .entry)))) (row (total (frameSizes shape)) e (now (frames .entry)))) (shape .executions) ⌝ }
 {
-    let len = 248 + 16 * shape.depth + 42 * shape.wide;
+    let len = frames::frame_length(shape);
     let n = shape.executions;
     for e in 0..n {
         let i = e * 16;

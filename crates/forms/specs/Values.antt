@@ -20,7 +20,7 @@ use Rattle.tables.specs.Tables.{tabled-dot}
 use Rattle.banquet.specs.declared.Shape.{Shape}
 use Rattle.banquet.specs.Shape.{sboxAt}
 use Rattle.banquet.specs.Scheme.{wideOps, Wide, lifted}
-use Rattle.banquet.specs.Sets.{aesScheme}
+use Rattle.banquet.specs.Sets.{schemeOf}
 use Rattle.banquet.specs.Execution.{through}
 use Rattle.theorems.specs.Wide.{wide-field}
 use Rattle.sets.specs.Valid.{Valid}
@@ -39,8 +39,8 @@ sum-parts {O = O} F m (suc n) f =
 module _ {S : Shape} (v : Valid S) where
   open Shape S using (wide, low, m1, m2)
 
-  F : BinaryField (wideOps (aesScheme S)) (Wide (aesScheme S))
-  F = wide-field (aesScheme S) (laws v)
+  F : BinaryField (wideOps (schemeOf S)) (Wide (schemeOf S))
+  F = wide-field (schemeOf S) (laws v)
 
   -- ---- a row by tables
 
@@ -49,56 +49,56 @@ module _ {S : Shape} (v : Valid S) where
   tabled-row x {bytes} b e j =
       tabled-dot (8 * wide) low F (powersOf S) (sets-field v .eight) (λ k. getD bytes (j + k * m1) 0) (λ k. b .lt (j + k * m1)) (near S x) m2 e m2
       (omega arith)
-      ∙ sum-cong (wideOps (aesScheme S)) m2
+      ∙ sum-cong (wideOps (schemeOf S)) m2
       (λ k l. ap (λ a. mul (8 * wide) low a (near S x k))
-      (sets-field v .lifts (getD bytes (j + k * m1) 0) ∙ ap (λ n. lifted (aesScheme S) (getD bytes (j + n) 0)) (nat-mul-comm k m1)))
+      (sets-field v .lifts (getD bytes (j + k * m1) 0) ∙ ap (λ n. lifted (schemeOf S) (getD bytes (j + n) 0)) (nat-mul-comm k m1)))
 
-  module _ (x : ℕ) (h : Wide (aesScheme S) x) where
+  module _ (x : ℕ) (h : Wide (schemeOf S) x) where
     few : suc m2 ≤ 2 ^ (8 * wide)
     few = omega (arith, laws v .enough-points)
 
     -- the last value apart from the rows'
     last-apart : (f : ℕ → ℕ) (s : ℕ)
-        → through (aesScheme S) (suc m2) (λ k. at k m2 s (f k)) x
-        ≡ bitXor (sum (wideOps (aesScheme S)) m2 (λ k. mul (8 * wide) low (f k) (near S x k))) (mul (8 * wide) low s (near S x m2))
+        → through (schemeOf S) (suc m2) (λ k. at k m2 s (f k)) x
+        ≡ bitXor (sum (wideOps (schemeOf S)) m2 (λ k. mul (8 * wide) low (f k) (near S x k))) (mul (8 * wide) low s (near S x m2))
     unfolding interpolated
     last-apart f s =
         sym (sum-interpolated (8 * wide) low F (suc m2) few x h (λ k. at k m2 s (f k)))
-        ∙ sum-suc (wideOps (aesScheme S)) m2 _
+        ∙ sum-suc (wideOps (schemeOf S)) m2 _
         ∙ ap₂ bitXor
-        (sum-cong (wideOps (aesScheme S)) m2 (λ k l. ap (λ a. mul (8 * wide) low a (near S x k)) (at-other k m2 s (f k) (omega arith))))
+        (sum-cong (wideOps (schemeOf S)) m2 (λ k l. ap (λ a. mul (8 * wide) low a (near S x k)) (at-other k m2 s (f k) (omega arith))))
         (ap (λ a. mul (8 * wide) low a (near S x m2)) (at-same m2 m2 s (f m2) refl))
 
     module _ (bytes : List ℕ) (j : ℕ) where
       abbrev lifts : ℕ → ℕ → ℕ
-      lifts j k = lifted (aesScheme S) (getD bytes (sboxAt S j k) 0)
+      lifts j k = lifted (schemeOf S) (getD bytes (sboxAt S j k) 0)
 
       pub S-value : (r s : ℕ → ℕ)
-          → through (aesScheme S) (suc m2) (valuesS (wideOps (aesScheme S)) m1 m2 r lifts s j) x ≡ valueS S (r j) (rowAt S bytes j x) (s j) (near S x m2)
+          → through (schemeOf S) (suc m2) (valuesS (wideOps (schemeOf S)) m1 m2 r lifts s j) x ≡ valueS S (r j) (rowAt S bytes j x) (s j) (near S x m2)
       unfolding valueS rowAt
       S-value r s =
           last-apart (λ k. mul (8 * wide) low (r j) (lifts j k)) (s j)
           ∙ ap (λ a. bitXor a (mul (8 * wide) low (s j) (near S x m2)))
-          (sum-cong (wideOps (aesScheme S)) m2 (λ k l. mul-assoc F (r j) (lifts j k) (near S x k)) ∙ sum-mul F m2 (r j) _)
+          (sum-cong (wideOps (schemeOf S)) m2 (λ k l. mul-assoc F (r j) (lifts j k) (near S x k)) ∙ sum-mul F m2 (r j) _)
 
       pub T-value : (t : ℕ → ℕ)
-          → through (aesScheme S) (suc m2) (valuesT (wideOps (aesScheme S)) m1 m2 lifts t j) x ≡ valueT S (rowAt S bytes j x) (t j) (near S x m2)
+          → through (schemeOf S) (suc m2) (valuesT (wideOps (schemeOf S)) m1 m2 lifts t j) x ≡ valueT S (rowAt S bytes j x) (t j) (near S x m2)
       unfolding valueT rowAt
       T-value t = last-apart (λ k. lifts j k) (t j)
 
     -- P: the public value times the sum of the values for the points below 20, and the others
     pub P-value : (a : ℕ) (p : ℕ → ℕ)
-        → through (aesScheme S) (suc (2 * m2)) (valuesP (wideOps (aesScheme S)) m1 m2 a p) x
-        ≡ bitXor (mul (8 * wide) low a (sum (wideOps (aesScheme S)) m2 (far S x)))
-        (sum (wideOps (aesScheme S)) (suc m2) (λ n. mul (8 * wide) low (p (m2 + n)) (far S x (m2 + n))))
+        → through (schemeOf S) (suc (2 * m2)) (valuesP (wideOps (schemeOf S)) m1 m2 a p) x
+        ≡ bitXor (mul (8 * wide) low a (sum (wideOps (schemeOf S)) m2 (far S x)))
+        (sum (wideOps (schemeOf S)) (suc m2) (λ n. mul (8 * wide) low (p (m2 + n)) (far S x (m2 + n))))
     unfolding interpolated
     P-value a p =
         sym (sum-interpolated (8 * wide) low F (suc (2 * m2)) (laws v .enough-points) x h (λ k. choose (ltb k m2) a (p k)))
-        ∙ ap (λ n. sum (wideOps (aesScheme S)) n (λ k. mul (8 * wide) low (choose (ltb k m2) a (p k)) (far S x k))) halves
+        ∙ ap (λ n. sum (wideOps (schemeOf S)) n (λ k. mul (8 * wide) low (choose (ltb k m2) a (p k)) (far S x k))) halves
         ∙ sum-parts F m2 (suc m2) _
         ∙ ap₂ bitXor
-        (sum-cong (wideOps (aesScheme S)) m2 (λ k l. ap (λ t. mul (8 * wide) low (choose t a (p k)) (far S x k)) (lt-ltb k m2 l)) ∙ sum-mul F m2 a (far S x))
-        (sum-cong (wideOps (aesScheme S)) (suc m2)
+        (sum-cong (wideOps (schemeOf S)) m2 (λ k l. ap (λ t. mul (8 * wide) low (choose t a (p k)) (far S x k)) (lt-ltb k m2 l)) ∙ sum-mul F m2 a (far S x))
+        (sum-cong (wideOps (schemeOf S)) (suc m2)
         (λ n l. ap (λ t. mul (8 * wide) low (choose t a (p (m2 + n))) (far S x (m2 + n))) (le-ltb (m2 + n) m2 (omega arith))))
       where
         halves : suc (2 * m2) ≡ m2 + suc m2

@@ -13,7 +13,7 @@ use Rattle.complete.specs.Complete.{completedRow}
 use Rattle.complete.specs.Rows.{completed-cong}
 use Rattle.banquet.specs.declared.Shape.{Shape}
 use Rattle.banquet.specs.Shape.{frameSizes}
-use Rattle.banquet.specs.Sets.{aesScheme}
+use Rattle.banquet.specs.Sets.{schemeOf}
 use Rattle.banquet.specs.Hash.{tape}
 use Rattle.banquet.specs.Execution.{challenge}
 use Rattle.banquet.specs.Signature.{framePart}
@@ -46,14 +46,14 @@ module _ (S : Shape) (frame : List ℕ) {len : ℕ} (long : length frame ≡ tot
       cut-long from (length frame) frame end (omega arith)
 
   pub sums-last : take (length frame - from) (drop from frame)
-      ≡ framePart (aesScheme S) frame 5 ++ (framePart (aesScheme S) frame 6 ++ framePart (aesScheme S) frame 7)
+      ≡ framePart (schemeOf S) frame 5 ++ (framePart (schemeOf S) frame 6 ++ framePart (schemeOf S) frame 7)
   unfolding field layout
   sums-last =
       let size : length sums ≡ wide + (m1 * wide + (m1 * wide + 0)) =
       ap length (sym sums-from) ∙ length-drop from frame ∙ omega (arith, long, e) in
       take-all (length frame - from) (drop from frame) (omega (arith, length-drop from frame)) ∙ sums-from
       ∙ layout-fields (wide ∷ m1 * wide ∷ m1 * wide ∷ []) sums size
-      ∙ ap (λ (x : List ℕ). framePart (aesScheme S) frame 5 ++ (framePart (aesScheme S) frame 6 ++ x)) (append-nil (framePart (aesScheme S) frame 7))
+      ∙ ap (λ (x : List ℕ). framePart (schemeOf S) frame 5 ++ (framePart (schemeOf S) frame 6 ++ x)) (append-nil (framePart (schemeOf S) frame 7))
 
   -- the sum of all rows, written part by part
   pub whole-written : Valid S → (publicKey : List ℕ) {d l : List ℕ} → length publicKey ≡ 32
@@ -74,16 +74,16 @@ module _ {S : Shape} {publicKey salt : List ℕ} {hidden : ℕ} {first : List �
   pub public-long : length publicKey ≡ 32
   public-long = omega (arith, g .public-sized .size, g .valid .plaintext)
 
-  pub front-long : length (take 16 publicKey) ≡ 16
-  front-long = rw length-take (omega (arith, public-long))
+  pub front-long : length (take 16 publicKey) ≡ S .front
+  front-long = rw length-take (omega (arith, public-long, g .valid .plaintext))
 
-  module _ (e : ℕ) (seeds : List ℕ) {sizes front key inverse product : List ℕ} (size : sizes ≡ frameSizes S)
-      (front-is : front ≡ take 16 publicKey) (key-is : key ≡ field sizes 2 frame) (inverse-is : inverse ≡ field sizes 3 frame)
-      (product-is : product ≡ field sizes 4 frame) where
+  module _ (e : ℕ) (seeds : List ℕ) {front key inverse product : List ℕ} (front-is : front ≡ take 16 publicKey)
+      (key-is : key ≡ framePart (schemeOf S) frame 2) (inverse-is : inverse ≡ framePart (schemeOf S) frame 3)
+      (product-is : product ≡ framePart (schemeOf S) frame 4) where
     -- the rows of those whose seeds are shown, and that of the hidden party
     pub rows-completed : {made out : List ℕ} → made
-        ≡ rows (λ i. shareRow (aesScheme S) (committed front key inverse) (challenge (aesScheme S) first product second) i
-        (tape (aesScheme S) salt e i (row 16 i seeds))) (S .parties)
+        ≡ rows (λ i. shareRow (schemeOf S) (committed front key inverse) (challenge (schemeOf S) first product second) i
+        (tape (schemeOf S) salt e i (row 16 i seeds))) (S .parties)
         → out ≡ rows (completedRow (S .parties) hidden (wholeRow S publicKey frame) (λ i. row (total (rowSizes S)) i made)) (S .parties)
         → out ≡ rows (frameRow S publicKey salt e hidden first second frame (λ i. row 16 i seeds)) (S .parties)
     unfolding frameRow
@@ -100,10 +100,10 @@ module _ {S : Shape} {publicKey salt : List ℕ} {hidden : ℕ} {first : List �
 
         shown : ℕ → List ℕ
         shown i =
-            shareRow (aesScheme S) (committedShown S publicKey salt e hidden first second frame seed)
-            (challengeShown S publicKey salt e hidden first second frame seed) i (tape (aesScheme S) salt e i (seed i))
+            shareRow (schemeOf S) (committedShown S publicKey salt e hidden first second frame seed)
+            (challengeShown S publicKey salt e hidden first second frame seed) i (tape (schemeOf S) salt e i (seed i))
 
         right : made ≡ rows shown (S .parties)
         right =
             let front-right : front ≡ take (S .front) publicKey = front-is ∙ ap (λ n. take n publicKey) (sym (g .valid .plaintext)) in
-            m ∙ rw (front-right, key-is, inverse-is, product-is, size) refl
+            m ∙ rw (front-right, key-is, inverse-is, product-is) refl

@@ -2,15 +2,15 @@
 use mathlib.Core.Path.{_≡_, refl, sym, ap, ap₂, _∙_}
 use mathlib.Core.Bool.{Bool, true, false}
 use mathlib.Core.List.{List, [], _∷_, _++_}
-use Prim.Native.Nat.{ℕ, zero, suc, _+_, _*_, _^_, _<_, _≤_}
+use Prim.Native.Nat.{ℕ, _+_, _*_, _^_, _<_, _≤_}
 use native.Mathlib.Nat.{mod-eq-of-lt}
 use native.Mathlib.Omega.{arith}
 use lib.Bits.{bitXor}
 use lib.Dec.{eqb}
 use lib.ListN.{length, take, drop, take-append-drop, length-drop}
-use lib.Seq.{take-all, take-nil, drop-nil}
+use lib.Seq.{take-all}
 use Rattle.slices.specs.Lists.{choose, tab, row, zipXor, sumXor}
-use Rattle.slices.specs.Tab.{rows-cong}
+use Rattle.slices.specs.Tab.{rows-cong, rows-of}
 use Rattle.slices.specs.Bytes.{Bytes, Sized, nil-bytes}
 use Rattle.slices.specs.Sums.{sumXor-cong, sum-bytes, zip-bytes, length-zip-sum}
 use Rattle.slices.specs.Numbers.{
@@ -26,13 +26,13 @@ use Rattle.slices.specs.Numbers.{
   numbers-bytes,
   numberAt-numbers-lt,
 }
-use Rattle.slices.specs.Layout.{total, field, layout}
+use Rattle.slices.specs.Layout.{total, field, layout, field-nil}
 use Rattle.poly.specs.Index.{at, at-cases}
 use Rattle.poly.specs.Sum.{sum, sum-cong}
 use Rattle.field.specs.Wide.{ops}
 use Rattle.forms.specs.Point.{sum-xor}
-use Rattle.forms.specs.Linear.{field-zip, field-sum, number-zip, number-sum, numberAt-zip, numberAt-sum}
-use Rattle.forms.specs.Stated.{rows-of, sized-row}
+use Rattle.forms.specs.Linear.{part-nil, field-zip, field-sum, number-zip, number-sum, numberAt-zip, numberAt-sum}
+use Rattle.forms.specs.Stated.{sized-row}
 
 -- ---- a value at one index, and another elsewhere
 
@@ -64,17 +64,9 @@ numbers-back w n {s} z =
     rows-cong n (λ k l. let r = sized-row w n z k l in bytesOf-number (row w k s) w (r .bytes) (r .size))
     ∙ sym (rows-of w n s) ∙ take-all (n * w) s (omega (arith, z .size))
 
-field-nil : (sizes : List ℕ) (k : ℕ) → field sizes k [] ≡ []
-unfolding field
-field-nil [] k = refl
-field-nil (zero ∷ sizes) zero = refl
-field-nil (suc n ∷ sizes) zero = refl
-field-nil (zero ∷ sizes) (suc k) = field-nil sizes k
-field-nil (suc n ∷ sizes) (suc k) = field-nil sizes k
-
 numberAt-nil : (w j : ℕ) → numberAt w j [] ≡ 0
 unfolding number
-numberAt-nil w j = ap number (ap (take w) (drop-nil (j * w)) ∙ take-nil w)
+numberAt-nil w j = ap number (part-nil (j * w) w)
 
 -- ---- what n lists, but for the one at h, leave of a whole
 

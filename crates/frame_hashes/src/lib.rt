@@ -11,7 +11,7 @@ ghost use Rattle.stream.specs.Stream.{absorbed};
 ghost use Rattle.columns.specs.Column.{columnOf};
 ghost use Rattle.complete.specs.Complete.{completedRow};
 ghost use Rattle.banquet.specs.Shape.{frameSizes};
-ghost use Rattle.banquet.specs.Sets.{aesScheme};
+ghost use Rattle.banquet.specs.Sets.{schemeOf};
 ghost use Rattle.banquet.specs.Signature.{framePart};
 ghost use Rattle.sets.specs.Valid.{Valid};
 ghost use Rattle.sets.specs.Bounds.{rowSizes};
@@ -70,7 +70,6 @@ fn frame_rows(
         ≡ rowsOf (frameRow shape (now (public .entry)) (now (salt .entry)) e hidden (now (first .entry)) second (now (frame .entry))
         (seedShown shape (now (salt .entry)) e hidden (now (frame .entry)))) (shape .parties) ⌝ }
 {
-    let sizes: &[usize] = &frames::frame_sizes(shape);
     let end = sets::leaf_bytes(shape);
     let mut seeds = [0u8; 2048];
     shown::expand_shown(
@@ -78,23 +77,23 @@ fn frame_rows(
         salt,
         e,
         0,
-        fields::field(sizes, 0, frame),
+        frames::part(shape, 0, frame),
         hidden,
         &mut seeds[0..end],
     );
     let leaves: &[u8] = &seeds;
     party::hash_rows(0, salt, e, shape.parties, 32, leaves, commitments);
-    slices::copy_at(commitments, hidden * 32, fields::field(sizes, 1, frame));
+    slices::copy_at(commitments, hidden * 32, frames::part(shape, 1, frame));
     execution::share_rows(
         shape,
         salt,
         e,
         leaves,
         &public[0..16],
-        fields::field(sizes, 2, frame),
-        fields::field(sizes, 3, frame),
+        frames::part(shape, 2, frame),
+        frames::part(shape, 3, frame),
         first,
-        fields::field(sizes, 4, frame),
+        frames::part(shape, 4, frame),
         second,
         rows,
     );
@@ -107,14 +106,13 @@ fn absorb_first(shape: Shape, s: Sponge, frame: &[u8], commitments: &[u8], rows:
         × (length (now rows) ≡ shape .parties * total (rowSizes shape)) ⌝ }
     ensures { λ r. ⌜ r
         ≡ absorbed s (now (commitments .entry) ++ columnOf (shape .parties) (total (rowSizes shape)) 0 16 (now (rows .entry))
-        ++ framePart (aesScheme shape) (now (frame .entry)) 2 ++ framePart (aesScheme shape) (now (frame .entry)) 3) ⌝ }
+        ++ framePart (schemeOf shape) (now (frame .entry)) 2 ++ framePart (schemeOf shape) (now (frame .entry)) 3) ⌝ }
 {
-    let sizes: &[usize] = &frames::frame_sizes(shape);
     let len = sets::row_length(shape);
     let a = absorb::absorb(s, commitments);
     let b = absorb_rows::absorb_column(a, shape.parties, len, 0, 16, rows);
-    let c = absorb::absorb(b, fields::field(sizes, 2, frame));
-    absorb::absorb(c, fields::field(sizes, 3, frame))
+    let c = absorb::absorb(b, frames::part(shape, 2, frame));
+    absorb::absorb(c, frames::part(shape, 3, frame))
 }
 
 // "the sums c, a, b and each party's c, a, b": the frame's end, and all but the output share of each row.
@@ -122,8 +120,8 @@ fn absorb_third(shape: Shape, s: Sponge, frame: &[u8], rows: &[u8]) -> Sponge
     requires { ⌜ Valid shape × (length (now frame) ≡ total (frameSizes shape))
         × (length (now rows) ≡ shape .parties * total (rowSizes shape)) ⌝ }
     ensures { λ r. ⌜ r
-        ≡ absorbed s ((framePart (aesScheme shape) (now (frame .entry)) 5 ++ (framePart (aesScheme shape) (now (frame .entry)) 6
-        ++ framePart (aesScheme shape) (now (frame .entry)) 7))
+        ≡ absorbed s ((framePart (schemeOf shape) (now (frame .entry)) 5 ++ (framePart (schemeOf shape) (now (frame .entry)) 6
+        ++ framePart (schemeOf shape) (now (frame .entry)) 7))
         ++ columnOf (shape .parties) (total (rowSizes shape)) 16 (total (rowSizes shape) - 16) (now (rows .entry))) ⌝ }
 {
     let len = sets::row_length(shape);

@@ -1,8 +1,8 @@
--- The sizes of a frame added, and the three answers of `frame`. Assumes nothing.
+-- The three answers of `frame`. Assumes nothing.
 use mathlib.Core.Path.{_≡_, sym, ap, _∙_}
 use mathlib.Core.Logic.{_≢_}
 use mathlib.Core.List.{List, []}
-use Prim.Native.Nat.{ℕ, _+_, _-_, _*_, _^_, _<_, _≤_}
+use Prim.Native.Nat.{ℕ, _+_, _-_, _*_, _<_, _≤_}
 use native.Mathlib.Omega.{arith}
 use lib.ListN.{length, take}
 use lib.Seq.{drop-drop}
@@ -11,31 +11,21 @@ use Rattle.slices.specs.Lists.{part}
 use Rattle.slices.specs.Layout.{total}
 use Rattle.banquet.specs.declared.Shape.{Shape}
 use Rattle.banquet.specs.Shape.{frameSizes, signatureLength}
-use Rattle.banquet.specs.Sets.{aesScheme}
+use Rattle.banquet.specs.Sets.{schemeOf}
 use Rattle.banquet.specs.Signature.{frameOf}
-use Rattle.sets.specs.Valid.{Valid}
-use Rattle.frames.specs.Frames.{frame-most, frame-is, frame-room}
-
--- ---- the eight sizes
-
-module _ {S : Shape} (v : Valid S) {sizes : List ℕ} (e : sizes ≡ frameSizes S) where
-  pub sizes-fit : (8 ≤ length sizes) × (total sizes < 2 ^ 63)
-  sizes-fit = rw e (omega arith, omega (arith, frame-most v))
-
-  pub all-sizes : {n : ℕ} → n ≡ total (take 8 sizes) → n ≡ total (frameSizes S)
-  all-sizes h = h ∙ ap (λ s. total (take 8 s)) e
+use Rattle.frames.specs.Frames.{frame-is, frame-room}
 
 -- ---- "or an empty part if e is over 40 or the file hasn't exactly a seal's length"
 
 module _ (S : Shape) (s : List ℕ) (e : ℕ) {whole size : ℕ} (w : whole ≡ signatureLength S) (z : size ≡ total (frameSizes S)) where
   open Shape S using (executions)
 
-  pub of-another-length : length s ≢ whole → [] ≡ frameOf (aesScheme S) s e
+  pub of-another-length : length s ≢ whole → [] ≡ frameOf (schemeOf S) s e
   unfolding frameOf
   of-another-length h = rw (ne-eqb (length s) (signatureLength S) (λ x. h (x ∙ sym w)))
 
   module _ (h : length s ≡ whole) where
-    pub none-such : executions ≤ e → [] ≡ frameOf (aesScheme S) s e
+    pub none-such : executions ≤ e → [] ≡ frameOf (schemeOf S) s e
     unfolding frameOf
     none-such l = rw (eq-eqb (length s) (signatureLength S) (h ∙ w), le-ltb e executions l)
 
@@ -44,7 +34,7 @@ module _ (S : Shape) (s : List ℕ) (e : ℕ) {whole size : ℕ} (w : whole ≡ 
       pub ends-within : 96 + e * size + size ≤ length s
       ends-within = rw z (omega (arith, frame-room S s (h ∙ w) l))
 
-      pub framed : part (96 + e * size) (96 + e * size + size - (96 + e * size)) s ≡ frameOf (aesScheme S) s e
+      pub framed : part (96 + e * size) (96 + e * size + size - (96 + e * size)) s ≡ frameOf (schemeOf S) s e
       framed =
           let n : 96 + e * size + size - (96 + e * size) ≡ size = omega arith in
           rw (n, z) (sym (frame-is S s (h ∙ w) l ∙ ap (take (total (frameSizes S))) (drop-drop (e * total (frameSizes S)) 96 s)))

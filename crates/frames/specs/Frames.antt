@@ -2,50 +2,43 @@
 use mathlib.Core.Path.{_≡_, ap, _∙_}
 use mathlib.Core.Bool.{Bool, true, false}
 use mathlib.Core.List.{List}
-use Prim.Native.Nat.{ℕ, suc, _+_, _*_, _^_, _<_, _≤_}
-use native.Mathlib.Nat.{mul-le-mul, mul-le-mul-right, suc-mul}
+use Prim.Native.Nat.{ℕ, _+_, _*_, _<_, _≤_}
+use native.Mathlib.Nat.{mul-le-mul}
 use native.Mathlib.Omega.{arith}
 use lib.Dec.{eqb, ltb}
 use lib.ListN.{length, getD, drop, length-drop}
 use lib.Seq.{length-take-le}
 use borrow.Author.Tests.{eq-eqb, lt-ltb}
 use Rattle.slices.specs.Lists.{choose, row}
+use Rattle.slices.specs.Tab.{row-fits}
 use Rattle.slices.specs.Bytes.{Bytes, Sized, nil-bytes, drop-bytes, part-bytes}
-use Rattle.slices.specs.Layout.{total, field, length-field}
+use Rattle.slices.specs.Layout.{total, length-field}
 use Rattle.banquet.specs.declared.Shape.{Shape}
 use Rattle.banquet.specs.Shape.{frameSizes, signatureLength}
-use Rattle.banquet.specs.Sets.{aesScheme}
-use Rattle.banquet.specs.Signature.{frameOf}
+use Rattle.banquet.specs.Sets.{schemeOf}
+use Rattle.banquet.specs.Signature.{frameOf, framePart}
 use Rattle.sets.specs.Valid.{Valid}
-use Rattle.sets.specs.Bounds.{all-sboxes, by-ten, by-points}
+use Rattle.sets.specs.Bounds.{all-sboxes, columns-most, by-points}
 
 -- ---- sizes
 
 module _ {S : Shape} (v : Valid S) where
-  open Shape S using (depth, executions, wide)
+  open Shape S using (depth, executions, wide, m1)
 
-  -- "frames of 480", where the depth is 4 and an element has 4 bytes
-  pub frame-total : total (frameSizes S) ≡ 248 + 16 * depth + 42 * wide
-  frame-total = omega (arith, all-sboxes v, by-points v wide, by-ten v wide)
+  -- "frames of 480", where the depth is 4, an element has 4 bytes and m1 is 10
+  pub frame-total : total (frameSizes S) ≡ 48 + 20 * m1 + 16 * depth + 22 * wide + 2 * (m1 * wide)
+  frame-total = omega (arith, all-sboxes v, by-points v wide)
 
   pub frame-most : total (frameSizes S) ≤ 612
-  frame-most = omega (arith, frame-total, v .shallow, v .wide-most)
+  frame-most = omega (arith, frame-total, v .shallow, v .columns, v .wide-most, columns-most v)
 
-  pub frames-most : executions * total (frameSizes S) ≤ 156672
+  pub frames-most : executions * total (frameSizes S) ≤ 25092
   frames-most = mul-le-mul (v .brief) frame-most
 
--- ---- the fields of a frame
-
-module _ {S : Shape} (v : Valid S) {sizes : List ℕ} (frame : List ℕ) where
-  -- what `fields::field` asks
-  pub frame-fits : sizes ≡ frameSizes S → length frame ≡ total (frameSizes S) → (k : ℕ) → k < 8
-      → (k < length sizes) × (total sizes ≤ length frame) × (total sizes < 2 ^ 63)
-  frame-fits e h k l = rw e (omega arith, omega arith, omega (arith, frame-most v))
-
--- field k of a frame has its size
-pub frame-field-size : (S : Shape) {sizes f : List ℕ} (frame : List ℕ) (k : ℕ) → sizes ≡ frameSizes S → length frame ≡ total (frameSizes S)
-    → f ≡ field sizes k frame → length f ≡ getD (frameSizes S) k 0
-frame-field-size S frame k e h is = rw (is, e) (length-field (frameSizes S) k frame h)
+-- part k of a frame has its size
+pub part-long : (S : Shape) {f : List ℕ} (frame : List ℕ) (k : ℕ) → length frame ≡ total (frameSizes S) → f ≡ framePart (schemeOf S) frame k
+    → length f ≡ getD (frameSizes S) k 0
+part-long S frame k h is = ap length is ∙ length-field (frameSizes S) k frame h
 
 -- ---- frame e of a signature s
 
@@ -59,18 +52,15 @@ module _ (S : Shape) (s : List ℕ) where
   -- it lies in the signature
   pub frame-room : {e : ℕ} → length s ≡ signatureLength S → e < executions
       → 96 + (e * total (frameSizes S) + total (frameSizes S)) ≤ length s
-  frame-room {e} h l =
-      let n = total (frameSizes S) in
-      let next : suc e * n ≤ executions * n = mul-le-mul-right n l in
-      omega (arith, next, suc-mul e n)
+  frame-room {e} h l = omega (arith, row-fits (total (frameSizes S)) l)
 
   -- "that part of the caller's own file"
   pub frame-is : {e : ℕ} → length s ≡ signatureLength S → e < executions
-      → frameOf (aesScheme S) s e ≡ row (total (frameSizes S)) e (drop 96 s)
+      → frameOf (schemeOf S) s e ≡ row (total (frameSizes S)) e (drop 96 s)
   unfolding frameOf
   frame-is {e} h l = rw (eq-eqb (length s) (signatureLength S) h, lt-ltb e executions l)
 
-  pub length-frame : {e : ℕ} → length s ≡ signatureLength S → e < executions → length (frameOf (aesScheme S) s e) ≡ total (frameSizes S)
+  pub length-frame : {e : ℕ} → length s ≡ signatureLength S → e < executions → length (frameOf (schemeOf S) s e) ≡ total (frameSizes S)
   length-frame {e} h l =
       let n = total (frameSizes S) in
       let rest = length-drop (e * n) (drop 96 s) in
@@ -78,12 +68,12 @@ module _ (S : Shape) (s : List ℕ) where
       ∙ length-take-le n (drop (e * n) (drop 96 s)) (omega (arith, frame-room h l, rest, length-drop 96 s))
 
   -- whatever e and the length of s: an empty part is bytes too
-  pub frame-bytes : (e : ℕ) → Bytes s → Bytes (frameOf (aesScheme S) s e)
+  pub frame-bytes : (e : ℕ) → Bytes s → Bytes (frameOf (schemeOf S) s e)
   unfolding frameOf
   frame-bytes e p =
       let n = total (frameSizes S) in
       chosen-bytes (eqb (length s) (signatureLength S))
       (chosen-bytes (ltb e executions) (part-bytes (e * n) n (drop 96 s) (drop-bytes 96 s p)) nil-bytes) nil-bytes
 
-  pub sized-frame : {e : ℕ} → Sized (signatureLength S) s → e < executions → Sized (total (frameSizes S)) (frameOf (aesScheme S) s e)
+  pub sized-frame : {e : ℕ} → Sized (signatureLength S) s → e < executions → Sized (total (frameSizes S)) (frameOf (schemeOf S) s e)
   sized-frame {e} z l = record { size = length-frame (z .size) l; bytes = frame-bytes e (z .bytes) }

@@ -9,7 +9,7 @@ use Rattle.slices.specs.Lists.{row}
 use Rattle.slices.proofs.Rows.{row-fits}
 use Rattle.shake.specs.Shake128.{shake128}
 use Rattle.banquet.specs.declared.Shape.{Shape}
-use Rattle.banquet.specs.Sets.{aesScheme}
+use Rattle.banquet.specs.Sets.{schemeOf}
 use Rattle.banquet.specs.Tree.{nodeSeeds, leaves}
 use Rattle.banquet.specs.Signer.{seedOf}
 use Rattle.tree.specs.Rows.{row-leaf, length-leaf-seeds}
@@ -33,7 +33,7 @@ module _ {S : Shape} (v : Valid S) (salt root : List ℕ) (e : ℕ) {seeds : Lis
     (w : seeds ≡ nodeSeeds (leaves shake128 salt e (S .depth) 0 root) ++ replicate (2048 - 16 * 2 ^ S .depth) 0) where
   open Shape S using (parties, depth)
 
-  pub seeds-row : (i : ℕ) → i < parties → row 16 i seeds ≡ seedOf (aesScheme S) salt root e i
+  pub seeds-row : (i : ℕ) → i < parties → row 16 i seeds ≡ seedOf (schemeOf S) salt root e i
   seeds-row i l =
       let less : i < 2 ^ depth = omega (arith, v .leaves) in
       ap (row 16 i) w

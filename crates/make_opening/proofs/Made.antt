@@ -6,7 +6,7 @@ use lib.ListN.{length, take}
 use Rattle.slices.specs.Lists.{rows, row, zipXor, sumXor}
 use Rattle.shake.specs.Shake128.{shake128}
 use Rattle.banquet.specs.declared.Shape.{Shape}
-use Rattle.banquet.specs.Sets.{aesScheme}
+use Rattle.banquet.specs.Sets.{schemeOf}
 use Rattle.banquet.specs.Hash.{tape}
 use Rattle.banquet.specs.Tree.{nodeSeeds, leaves}
 use Rattle.banquet.specs.Key.{frontOf}
@@ -25,21 +25,21 @@ module _ {S : Shape} (v : Valid S) (key public salt root first seeds : List ℕ)
   open Shape S using (parties, depth)
 
   abbrev tapes : ℕ → List ℕ
-  tapes i = tape (aesScheme S) salt e i (row 16 i seeds)
+  tapes i = tape (schemeOf S) salt e i (row 16 i seeds)
 
   abbrev front : List ℕ
-  front = frontOf (aesScheme S) public
+  front = frontOf (schemeOf S) public
 
-  drawn : (i : ℕ) → i < parties → IsTape (aesScheme S) (laws v) (tapes i)
-  drawn i l = hashed-tape (aesScheme S) (laws v) salt e i (row 16 i seeds)
+  drawn : (i : ℕ) → i < parties → IsTape (schemeOf S) (laws v) (tapes i)
+  drawn i l = hashed-tape (schemeOf S) (laws v) salt e i (row 16 i seeds)
 
   -- the offsets as `signer` leaves them, the rows as `execution` does
   module _ {inverses us vs lasts k y o s : List ℕ} (root-size : length root ≡ 16)
       (seeds-is : seeds ≡ nodeSeeds (leaves shake128 salt e depth 0 root)) (p : AtPoints S key public inverses us vs lasts)
-      (k-is : k ≡ zipXor key (tapePart (aesScheme S) 0 (sumXor parties tapes)))
-      (y-is : y ≡ zipXor inverses (tapePart (aesScheme S) 1 (sumXor parties tapes)))
+      (k-is : k ≡ zipXor key (tapePart (schemeOf S) 0 (sumXor parties tapes)))
+      (y-is : y ≡ zipXor inverses (tapePart (schemeOf S) 1 (sumXor parties tapes)))
       (o-is : o ≡ workedOffsets S us vs lasts (sumXor parties tapes) first)
-      (s-is : s ≡ rows (λ i. shareRow (aesScheme S) (committed (take 16 public) k y) (challenge (aesScheme S) first o second) i (tapes i)) parties)
+      (s-is : s ≡ rows (λ i. shareRow (schemeOf S) (committed (take 16 public) k y) (challenge (schemeOf S) first o second) i (tapes i)) parties)
     where
       made : Made S key public salt root first e second seeds front k y o s
       made = record {
@@ -48,10 +48,10 @@ module _ {S : Shape} (v : Valid S) (key public salt root first seeds : List ℕ)
         inverses-are = y-is ∙ inverse-offsets v drawn front key (p .inverses-is);
         offsets-are = o-is ∙ product-offsets v drawn front key refl (p .inverses-is) (p .us-is) (p .vs-is) (p .lasts-is) first;
         rows-are = s-is
-            ∙ ap (λ n. rows (λ i. shareRow (aesScheme S) (committed (take n public) k y) (challenge (aesScheme S) first o second) i (tapes i)) parties)
+            ∙ ap (λ n. rows (λ i. shareRow (schemeOf S) (committed (take n public) k y) (challenge (schemeOf S) first o second) i (tapes i)) parties)
             (sym (v .plaintext));
       }
 
       pub opening-made : {out : List ℕ} → out ≡ written S salt e root hidden seeds k y first o second s
-          → out ≡ opening (aesScheme S) key public salt root first e second hidden
+          → out ≡ opening (schemeOf S) key public salt root first e second hidden
       opening-made h = h ∙ written-opening S key public salt root first e second seeds refl made hidden

@@ -1,16 +1,15 @@
 -- The steps of opening an execution: what each is given. Assumes nothing.
 use mathlib.Core.Path.{_≡_}
 use mathlib.Core.List.{List}
-use Prim.Native.Nat.{ℕ, _+_, _*_, _^_, _≤_, _<_}
+use Prim.Native.Nat.{ℕ, _*_, _^_, _≤_, _<_}
 use lib.ListN.{length}
-use Rattle.slices.specs.Lists.{tab, rows}
 use Rattle.banquet.specs.declared.Shape.{Shape}
 use Rattle.banquet.specs.Shape.{firstChallengeLength}
 use Rattle.banquet.specs.Scheme.{trueInverses}
-use Rattle.banquet.specs.Sets.{aesScheme}
+use Rattle.banquet.specs.Sets.{schemeOf}
 use Rattle.banquet.specs.Key.{frontOf}
 use Rattle.sets.specs.Valid.{Valid}
-use Rattle.forms.specs.Point.{near, rowAt}
+use Rattle.forms.specs.Point.{pointRows, pointLasts}
 
 -- every length is right
 pub record Lengths (S : Shape) (key publicKey salt root first : List ℕ) : Type 0 where
@@ -30,12 +29,12 @@ pub record Ranges (S : Shape) (e second hidden : ℕ) : Type 0 where
 
 -- the S-boxes' inputs and inverses under the key
 pub record Inverted (S : Shape) (key publicKey inputs inverses : List ℕ) : Type 0 where
-  pub inputs-is : inputs ≡ aesScheme S .circuit .sboxInputs (frontOf (aesScheme S) publicKey) key
-  pub inverses-is : inverses ≡ trueInverses (aesScheme S) (frontOf (aesScheme S) publicKey) key
+  pub inputs-is : inputs ≡ schemeOf S .circuit .sboxInputs (frontOf (schemeOf S) publicKey) key
+  pub inverses-is : inverses ≡ trueInverses (schemeOf S) (frontOf (schemeOf S) publicKey) key
 
 -- the inverses, and at the points 20 to 40 the rows of the inputs and of the inverses and Lagrange's value for the extra point
 pub record AtPoints (S : Shape) (key publicKey inverses us vs lasts : List ℕ) : Type 0 where
-  pub inverses-is : inverses ≡ trueInverses (aesScheme S) (frontOf (aesScheme S) publicKey) key
-  pub us-is : us ≡ rows (λ k. tab (λ j. rowAt S (aesScheme S .circuit .sboxInputs (frontOf (aesScheme S) publicKey) key) j (20 + k)) 10) 21
-  pub vs-is : vs ≡ rows (λ k. tab (λ j. rowAt S inverses j (20 + k)) 10) 21
-  pub lasts-is : lasts ≡ tab (λ k. near S (20 + k) 20) 21
+  pub inverses-is : inverses ≡ trueInverses (schemeOf S) (frontOf (schemeOf S) publicKey) key
+  pub us-is : us ≡ pointRows S (schemeOf S .circuit .sboxInputs (frontOf (schemeOf S) publicKey) key)
+  pub vs-is : vs ≡ pointRows S inverses
+  pub lasts-is : lasts ≡ pointLasts S

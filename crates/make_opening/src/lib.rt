@@ -7,7 +7,7 @@ ghost use Rattle.slices.specs.Layout.{total};
 ghost use Rattle.shake.specs.Shake128.{shake128};
 ghost use Rattle.banquet.specs.Shape.{openingLength, productPoints};
 ghost use Rattle.banquet.specs.declared.Answer.the-variants.{Accepted};
-ghost use Rattle.banquet.specs.Sets.{aesScheme};
+ghost use Rattle.banquet.specs.Sets.{schemeOf};
 ghost use Rattle.banquet.specs.Answer.{outputAfter};
 ghost use Rattle.banquet.specs.Tree.{nodeSeeds, leaves};
 ghost use Rattle.banquet.specs.Opening.{opening};
@@ -41,10 +41,12 @@ fn make_shares(
         × (length (now products) ≡ productPoints shape * shape .wide) × (length (now rows) ≡ shape .parties * total (rowSizes shape))
         × (length (now out) ≡ openingLength shape) ⌝ }
     ensures { λ _. ⌜ now (out .exit)
-        ≡ opening (aesScheme shape) (now (key .entry)) (now (public .entry)) (now (salt .entry)) (now (root .entry)) (now (first .entry)) e second hidden ⌝ }
+        ≡ opening (schemeOf shape) (now (key .entry)) (now (public .entry)) (now (salt .entry)) (now (root .entry)) (now (first .entry)) e second hidden ⌝ }
 {
+    let n = inverses.len();
     let mut key_bytes = [0u8; 16];
-    let mut inverse_bytes = [0u8; 200];
+    let mut inverse_room = [0u8; 200];
+    let inverse_bytes = &mut inverse_room[0..n];
     signer::offsets(
         shape,
         salt,
@@ -57,11 +59,11 @@ fn make_shares(
         lasts,
         first,
         &mut key_bytes,
-        &mut inverse_bytes,
+        inverse_bytes,
         products,
     );
     let key_offset: &[u8] = &key_bytes;
-    let inverse_offsets: &[u8] = &inverse_bytes;
+    let inverse_offsets: &[u8] = inverse_bytes;
     let product_offsets: &[u8] = products;
     execution::share_rows(
         shape,
@@ -113,7 +115,7 @@ pub fn make(
         × Ranges shape e second hidden × Inverted shape (now key) (now public) (now inputs) (now inverses)
         × (openingLength shape ≤ length (now out)) × (65536 ≤ length (now work)) ⌝ }
     ensures { λ _. ⌜ now (out .exit)
-        ≡ outputAfter Accepted (opening (aesScheme shape) (now (key .entry)) (now (public .entry)) (now (salt .entry)) (now (root .entry))
+        ≡ outputAfter Accepted (opening (schemeOf shape) (now (key .entry)) (now (public .entry)) (now (salt .entry)) (now (root .entry))
         (now (first .entry)) e second hidden) (now (out .entry)) ⌝ }
     ensures { λ _. ⌜ Scratch (now (work .entry)) (now (work .exit)) ⌝ }
 {
@@ -121,10 +123,13 @@ pub fn make(
     let leaves = sets::leaf_bytes(shape);
     let seeds = &mut room[0..leaves];
     tree::expand(shape.depth, salt, e, 0, root, seeds);
-    let mut us = [0u64; 210];
-    let mut vs = [0u64; 210];
+    let n = 21 * shape.m1;
+    let mut input_rows = [0u64; 210];
+    let mut inverse_rows = [0u64; 210];
     let mut lasts = [0u64; 21];
-    true_rows::true_rows(shape, inputs, inverses, &mut us, &mut vs, &mut lasts);
+    let us = &mut input_rows[0..n];
+    let vs = &mut inverse_rows[0..n];
+    true_rows::true_rows(shape, inputs, inverses, us, vs, &mut lasts);
     let mut products = [0u8; 126];
     let end = 21 * shape.wide;
     let rows = shape.parties * sets::row_length(shape);
@@ -141,8 +146,8 @@ pub fn make(
         hidden,
         inverses,
         seeds,
-        &us,
-        &vs,
+        us,
+        vs,
         &lasts,
         &mut products[0..end],
         &mut work[0..rows],

@@ -1,5 +1,5 @@
 -- What the passes absorb is what h1, h2 and h3 bind, and what they draw are the challenges. Assumes nothing.
-use mathlib.Core.Path.{_≡_, refl, sym, ap, ap₂, fun-ext, _∙_}
+use mathlib.Core.Path.{_≡_, refl, ap, ap₂, fun-ext, _∙_}
 use mathlib.Core.List.{List, _∷_, _++_}
 use Prim.Native.Nat.{ℕ, _+_, _-_, _*_}
 use lib.Dec.{lit<}
@@ -14,16 +14,16 @@ use Rattle.stream.specs.declared.Sponge.{Sponge}
 use Rattle.stream.specs.Stream.{empty, absorbed, finished, squeezed}
 use Rattle.banquet.specs.declared.Shape.{Shape}
 use Rattle.banquet.specs.Shape.{frameSizes, firstChallengeLength}
-use Rattle.banquet.specs.Sets.{aesScheme}
+use Rattle.banquet.specs.Sets.{schemeOf}
 use Rattle.banquet.specs.Hash.{firstHash, secondHash, thirdHash, firstChallenge, secondChallenge, hiddenParty, evaluationPoint, partyOf}
 use Rattle.sets.specs.Valid.{Valid}
-use Rattle.frames.specs.Frames.{frame-total}
-use Rattle.signing.specs.Steps.{offsetsAt, ownRow, ownPart, pointRows, pointLasts, offsetFrame, openedFrame, openedPart, finishedFrame}
+use Rattle.forms.specs.Point.{pointRows, pointLasts}
+use Rattle.signing.specs.Steps.{offsetsAt, witnessLength, ownRow, ownPart, offsetFrame, openedFrame, openedPart, finishedFrame}
 use Rattle.signing.specs.Own.{own-part-bytes}
 use Rattle.signing.specs.Kept.{offset-part-bytes, opened-part-bytes}
 
 module _ {S : Shape} (v : Valid S) where
-  open Shape S using (executions, depth, wide)
+  open Shape S using (executions, wide)
 
   -- ---- the witness, as the code holds it
 
@@ -31,7 +31,7 @@ module _ {S : Shape} (v : Valid S) where
     pub first-hashed : {publicKey message salt : List ℕ} (front roots : List ℕ) {s t : Sponge} → Bytes publicKey → Bytes message → Bytes salt
         → Bytes witness → s ≡ absorbed empty (1 ∷ (publicKey ++ bytesOf 4 (length message) ++ message ++ salt))
         → t ≡ absorbed s (rows (λ e. ownPart S front held salt (row 16 e roots) e) executions)
-        → squeezed (finished t) 32 ≡ firstHash (aesScheme S) publicKey message salt (λ e. ownPart S front witness salt (row 16 e roots) e)
+        → squeezed (finished t) 32 ≡ firstHash (schemeOf S) publicKey message salt (λ e. ownPart S front witness salt (row 16 e roots) e)
     unfolding firstHash
     first-hashed {publicKey} {message} {salt} front roots {s} p m b k e f =
         hashed (1 ∷ (publicKey ++ bytesOf 4 (length message) ++ message ++ salt))
@@ -48,21 +48,22 @@ module _ {S : Shape} (v : Valid S) where
 
   -- ---- the product offsets, where the code finds them
 
-  pub second-hashed : {h1 frames : List ℕ} {at : ℕ} {s t : Sponge} → Bytes h1 → Bytes frames → s ≡ absorbed empty (2 ∷ h1)
-      → t ≡ absorbed s (rows (λ e. part at (21 * wide) (row (248 + 16 * depth + 42 * wide) e frames)) executions) → at ≡ offsetsAt S + 216
+  pub second-hashed : {h1 frames : List ℕ} {len p : ℕ} {s t : Sponge} → Bytes h1 → Bytes frames → s ≡ absorbed empty (2 ∷ h1)
+      → t ≡ absorbed s (rows (λ e. part p (21 * wide) (row len e frames)) executions) → p ≡ offsetsAt S + witnessLength S
+      → len ≡ total (frameSizes S)
       → squeezed (finished t) 32
-      ≡ secondHash (aesScheme S) h1 (λ e. part (offsetsAt S + 216) (21 * wide) (row (total (frameSizes S)) e frames))
+      ≡ secondHash (schemeOf S) h1 (λ e. part (offsetsAt S + witnessLength S) (21 * wide) (row (total (frameSizes S)) e frames))
   unfolding secondHash
-  second-hashed {h1} {frames} {at} {s} p q e f z =
-      hashed (2 ∷ h1) (rows (λ e. part (offsetsAt S + 216) (21 * wide) (row (total (frameSizes S)) e frames)) executions)
-      (cons-bytes (lit< tt) p) (rows-bytes _ executions (λ e l. offset-part-bytes v e q)) e
-      (f ∙ ap₂ (λ k n. absorbed s (rows (λ e. part k (21 * wide) (row n e frames)) executions)) z (sym (frame-total v)))
+  second-hashed {h1} {frames} {len} {p} {s} b q e f at z =
+      hashed (2 ∷ h1) (rows (λ e. part (offsetsAt S + witnessLength S) (21 * wide) (row (total (frameSizes S)) e frames)) executions)
+      (cons-bytes (lit< tt) b) (rows-bytes _ executions (λ e l. offset-part-bytes v e q)) e
+      (f ∙ ap₂ (λ k n. absorbed s (rows (λ e. part k (21 * wide) (row n e frames)) executions)) at z)
 
   -- ---- the passes that draw challenges
 
   -- the second challenge's bytes for all executions
   module _ (h2 : List ℕ) {seconds : List ℕ} (drawn : seconds ≡ shake128 (7 ∷ h2) (executions * wide)) where
-    second-at : (e : ℕ) → evaluationPoint (S .m2) (numberAt wide e seconds) ≡ secondChallenge (aesScheme S) h2 e
+    second-at : (e : ℕ) → evaluationPoint (S .m2) (numberAt wide e seconds) ≡ secondChallenge (schemeOf S) h2 e
     unfolding secondChallenge
     second-at e = ap (λ t. evaluationPoint (S .m2) (numberAt wide e t)) drawn
 
@@ -71,7 +72,7 @@ module _ {S : Shape} (v : Valid S) where
           → out ≡ rows (λ e. openedFrame S front salt (row 16 e roots) e (row (firstChallengeLength S) e firsts)
           (evaluationPoint (S .m2) (numberAt wide e seconds)) (row (total (frameSizes S)) e frames)) executions
           → out ≡ rows (λ e. openedFrame S front salt (row 16 e roots) e (row (firstChallengeLength S) e firsts)
-          (secondChallenge (aesScheme S) h2 e) (row (total (frameSizes S)) e frames)) executions
+          (secondChallenge (schemeOf S) h2 e) (row (total (frameSizes S)) e frames)) executions
       opened-right h =
           h ∙ ap (λ f. rows (λ e. openedFrame S front salt (row 16 e roots) e (row (firstChallengeLength S) e firsts) (f e)
           (row (total (frameSizes S)) e frames)) executions) (fun-ext second-at)
@@ -80,12 +81,12 @@ module _ {S : Shape} (v : Valid S) where
           → t ≡ absorbed s (rows (λ e. openedPart S front salt (row 16 e roots) e (row (firstChallengeLength S) e firsts)
           (evaluationPoint (S .m2) (numberAt wide e seconds)) (row (total (frameSizes S)) e frames)) executions)
           → squeezed (finished t) 32
-          ≡ thirdHash (aesScheme S) h2 (λ e. openedPart S front salt (row 16 e roots) e (row (firstChallengeLength S) e firsts)
-          (secondChallenge (aesScheme S) h2 e) (row (total (frameSizes S)) e frames))
+          ≡ thirdHash (schemeOf S) h2 (λ e. openedPart S front salt (row 16 e roots) e (row (firstChallengeLength S) e firsts)
+          (secondChallenge (schemeOf S) h2 e) (row (total (frameSizes S)) e frames))
       unfolding thirdHash
       third-hashed {s} p e f =
           hashed (3 ∷ h2) (rows (λ e. openedPart S front salt (row 16 e roots) e (row (firstChallengeLength S) e firsts)
-          (secondChallenge (aesScheme S) h2 e) (row (total (frameSizes S)) e frames)) executions)
+          (secondChallenge (schemeOf S) h2 e) (row (total (frameSizes S)) e frames)) executions)
           (cons-bytes (lit< tt) p) (rows-bytes _ executions (λ e l. opened-part-bytes v _ _ _ e _ _ _)) e
           (f ∙ ap (λ g. absorbed s (rows (λ e. openedPart S front salt (row 16 e roots) e (row (firstChallengeLength S) e firsts) (g e)
           (row (total (frameSizes S)) e frames)) executions)) (fun-ext second-at))
@@ -93,14 +94,14 @@ module _ {S : Shape} (v : Valid S) where
   pub finished-right : (h3 salt roots frames : List ℕ) {thirds out : List ℕ} → thirds ≡ shake128 (8 ∷ h3) (executions * 4)
       → out ≡ rows (λ e. finishedFrame S salt (row 16 e roots) e (partyOf (S .parties) (numberAt 4 e thirds)) (row (total (frameSizes S)) e frames))
       executions
-      → out ≡ rows (λ e. finishedFrame S salt (row 16 e roots) e (hiddenParty (aesScheme S) h3 e) (row (total (frameSizes S)) e frames)) executions
+      → out ≡ rows (λ e. finishedFrame S salt (row 16 e roots) e (hiddenParty (schemeOf S) h3 e) (row (total (frameSizes S)) e frames)) executions
   unfolding hiddenParty
   finished-right h3 salt roots frames d h = h ∙ rw d refl
 
   pub offset-right : (h1 inputs inverses frames : List ℕ) {us vs lasts firsts out : List ℕ} → us ≡ pointRows S inputs → vs ≡ pointRows S inverses
       → lasts ≡ pointLasts S → firsts ≡ shake128 (6 ∷ h1) (executions * firstChallengeLength S)
       → out ≡ rows (λ e. offsetFrame S us vs lasts (row (firstChallengeLength S) e firsts) (row (total (frameSizes S)) e frames)) executions
-      → out ≡ rows (λ e. offsetFrame S (pointRows S inputs) (pointRows S inverses) (pointLasts S) (firstChallenge (aesScheme S) h1 e)
+      → out ≡ rows (λ e. offsetFrame S (pointRows S inputs) (pointRows S inverses) (pointLasts S) (firstChallenge (schemeOf S) h1 e)
       (row (total (frameSizes S)) e frames)) executions
   unfolding firstChallenge
   offset-right h1 inputs inverses frames p q r d h = h ∙ rw (p, q, r, d) refl

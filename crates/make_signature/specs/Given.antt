@@ -7,7 +7,7 @@ use Rattle.slices.specs.Layout.{total}
 use Rattle.banquet.specs.declared.Shape.{Shape}
 use Rattle.banquet.specs.Shape.{frameSizes}
 use Rattle.banquet.specs.Scheme.{trueInverses}
-use Rattle.banquet.specs.Sets.{aesScheme}
+use Rattle.banquet.specs.Sets.{schemeOf}
 use Rattle.banquet.specs.Key.{frontOf}
 use Rattle.sets.specs.Valid.{Valid}
 
@@ -23,5 +23,5 @@ pub record Given (S : Shape) (key publicKey salt roots inputs inverses : List �
   pub public-size : length publicKey ≡ 32
   pub salt-size : length salt ≡ 32
   pub roots-size : length roots ≡ S .executions * 16
-  pub inputs-is : inputs ≡ aesScheme S .circuit .sboxInputs (frontOf (aesScheme S) publicKey) key
-  pub inverses-is : inverses ≡ trueInverses (aesScheme S) (frontOf (aesScheme S) publicKey) key
+  pub inputs-is : inputs ≡ schemeOf S .circuit .sboxInputs (frontOf (schemeOf S) publicKey) key
+  pub inverses-is : inverses ≡ trueInverses (schemeOf S) (frontOf (schemeOf S) publicKey) key

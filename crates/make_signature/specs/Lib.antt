@@ -1,3 +1,2 @@
--- What the steps of signing are given, and what those after the first leave.
+-- What the steps of signing are given.
 pub mod Given
-pub mod Answered

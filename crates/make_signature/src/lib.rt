@@ -7,15 +7,15 @@ ghost use lib.ListN.{length, take};
 ghost use Rattle.slices.specs.Lists.{rows, row, part, put};
 ghost use Rattle.slices.specs.Layout.{total};
 ghost use Rattle.shake.specs.Shake128.{shake128};
-ghost use Rattle.banquet.specs.Shape.{firstChallengeLength, frameSizes, signatureLength};
-ghost use Rattle.banquet.specs.Sets.{aesScheme};
+ghost use Rattle.banquet.specs.Shape.{sboxes, firstChallengeLength, frameSizes, signatureLength};
+ghost use Rattle.banquet.specs.Sets.{schemeOf};
 ghost use Rattle.banquet.specs.Hash.{firstHash, secondHash, thirdHash, firstChallenge, secondChallenge, hiddenParty};
 ghost use Rattle.banquet.specs.Signature.{signature};
-ghost use Rattle.sets.specs.Valid.{Valid};
 ghost use Rattle.scratch.specs.Scratch.{Scratch};
-ghost use Rattle.signing.specs.Steps.{offsetsAt, ownRow, ownPart, pointRows, pointLasts, offsetFrame, openedFrame, openedPart, finishedFrame};
+ghost use Rattle.forms.specs.Point.{pointRows, pointLasts};
+ghost use Rattle.signing.specs.Steps.{offsetsAt, witnessLength, ownRow, ownPart, offsetFrame, openedFrame, openedPart, finishedFrame};
+ghost use Rattle.signing.specs.Passes.{Answered};
 ghost use Rattle.make_signature.specs.Given.{Given, Frames};
-ghost use Rattle.make_signature.specs.Answered.{Answered};
 
 // The offsets of key and inverses into the frames, and h1. The work slice's front is scratch for the tapes of one execution.
 fn commit_pass(
@@ -29,10 +29,10 @@ fn commit_pass(
     frames: &mut [u8],
     work: &mut [u8],
 ) -> [u8; 32]
-    requires { ⌜ Frames shape (now frames) × (length (now key) ≡ 16) × (length (now inverses) ≡ 200) × (length (now public) ≡ 32)
+    requires { ⌜ Frames shape (now frames) × (length (now key) ≡ 16) × (length (now inverses) ≡ sboxes shape) × (length (now public) ≡ 32)
         × (length (now salt) ≡ 32) × (length (now roots) ≡ shape .executions * 16) × (65536 ≤ length (now work)) ⌝ }
     ensures { λ r. ⌜ r
-        ≡ firstHash (aesScheme shape) (now (public .entry)) (now (message .entry)) (now (salt .entry))
+        ≡ firstHash (schemeOf shape) (now (public .entry)) (now (message .entry)) (now (salt .entry))
         (λ e. ownPart shape (take 16 (now (public .entry))) (now (key .entry) ++ now (inverses .entry)) (now (salt .entry))
         (row 16 e (now (roots .entry))) e) ⌝ }
     ensures { λ _. ⌜ now (frames .exit)
@@ -40,17 +40,19 @@ fn commit_pass(
         (ownRow shape (now (key .entry) ++ now (inverses .entry)) (now (salt .entry)) (row 16 e (now (roots .entry))) e)) (shape .executions) ⌝ }
     ensures { λ _. ⌜ Scratch (now (work .entry)) (now (work .exit)) ⌝ }
 {
-    let size = shape.parties * (216 + 41 * shape.wide);
-    let mut witness = [0u8; 216];
-    slices::copy_at(&mut witness, 0, key);
-    slices::copy_at(&mut witness, 16, inverses);
+    let size = shape.parties * sets::tape_length(shape);
+    let n = 16 + inverses.len();
+    let mut room = [0u8; 216];
+    let witness = &mut room[0..n];
+    slices::copy_at(witness, 0, key);
+    slices::copy_at(witness, 16, inverses);
     let s = hash_inputs::first_input(public, message, salt);
     let t = commit::commit_frames(
         shape,
         salt,
         roots,
         &public[0..16],
-        &witness,
+        witness,
         frames,
         &mut work[0..size],
         s,
@@ -69,24 +71,27 @@ fn offset_pass(
     firsts: &mut [u8],
     frames: &mut [u8],
 ) -> [u8; 32]
-    requires { ⌜ Frames shape (now frames) × (length (now inputs) ≡ 200) × (length (now inverses) ≡ 200) × (length (now h1) ≡ 32)
+    requires { ⌜ Frames shape (now frames) × (length (now inputs) ≡ sboxes shape) × (length (now inverses) ≡ sboxes shape) × (length (now h1) ≡ 32)
         × (length (now firsts) ≡ shape .executions * firstChallengeLength shape) ⌝ }
     ensures { λ _. ⌜ now (firsts .exit) ≡ shake128 (6 ∷ now (h1 .entry)) (shape .executions * firstChallengeLength shape) ⌝ }
     ensures { λ _. ⌜ now (frames .exit)
         ≡ rows (λ e. offsetFrame shape (pointRows shape (now (inputs .entry))) (pointRows shape (now (inverses .entry))) (pointLasts shape)
-        (firstChallenge (aesScheme shape) (now (h1 .entry)) e) (row (total (frameSizes shape)) e (now (frames .entry)))) (shape .executions) ⌝ }
+        (firstChallenge (schemeOf shape) (now (h1 .entry)) e) (row (total (frameSizes shape)) e (now (frames .entry)))) (shape .executions) ⌝ }
     ensures { λ r. ⌜ r
-        ≡ secondHash (aesScheme shape) (now (h1 .entry))
-        (λ e. part (offsetsAt shape + 216) (21 * shape .wide) (row (total (frameSizes shape)) e (now (frames .exit)))) ⌝ }
+        ≡ secondHash (schemeOf shape) (now (h1 .entry))
+        (λ e. part (offsetsAt shape + witnessLength shape) (21 * shape .wide) (row (total (frameSizes shape)) e (now (frames .exit)))) ⌝ }
 {
     hash_inputs::draw(6, h1, firsts);
-    let mut us = [0u64; 210];
-    let mut vs = [0u64; 210];
+    let n = 21 * shape.m1;
+    let mut input_rows = [0u64; 210];
+    let mut inverse_rows = [0u64; 210];
     let mut lasts = [0u64; 21];
-    true_rows::true_rows(shape, inputs, inverses, &mut us, &mut vs, &mut lasts);
-    offset_frames::offset_frames(shape, &us, &vs, &lasts, firsts, frames);
-    let p = 248 + 16 * shape.depth;
-    let len = p + 42 * shape.wide;
+    let us = &mut input_rows[0..n];
+    let vs = &mut inverse_rows[0..n];
+    true_rows::true_rows(shape, inputs, inverses, us, vs, &mut lasts);
+    offset_frames::offset_frames(shape, us, vs, &lasts, firsts, frames);
+    let len = frames::frame_length(shape);
+    let p = frames::offset(shape, 4);
     let s = hash_inputs::tagged(2, h1);
     let t = absorb_rows::absorb_column(s, shape.executions, len, p, 21 * shape.wide, frames);
     let mut h = [0u8; 32];
@@ -108,19 +113,19 @@ fn open_pass(
     requires { ⌜ Frames shape (now frames) × (length (now public) ≡ 32) × (length (now salt) ≡ 32) × (length (now roots) ≡ shape .executions * 16)
         × (length (now h2) ≡ 32) × (length (now firsts) ≡ shape .executions * firstChallengeLength shape) × (65536 ≤ length (now work)) ⌝ }
     ensures { λ r. ⌜ r
-        ≡ thirdHash (aesScheme shape) (now (h2 .entry))
+        ≡ thirdHash (schemeOf shape) (now (h2 .entry))
         (λ e. openedPart shape (take 16 (now (public .entry))) (now (salt .entry)) (row 16 e (now (roots .entry))) e
-        (row (firstChallengeLength shape) e (now (firsts .entry))) (secondChallenge (aesScheme shape) (now (h2 .entry)) e)
+        (row (firstChallengeLength shape) e (now (firsts .entry))) (secondChallenge (schemeOf shape) (now (h2 .entry)) e)
         (row (total (frameSizes shape)) e (now (frames .entry)))) ⌝ }
     ensures { λ _. ⌜ now (frames .exit)
         ≡ rows (λ e. openedFrame shape (take 16 (now (public .entry))) (now (salt .entry)) (row 16 e (now (roots .entry))) e
-        (row (firstChallengeLength shape) e (now (firsts .entry))) (secondChallenge (aesScheme shape) (now (h2 .entry)) e)
+        (row (firstChallengeLength shape) e (now (firsts .entry))) (secondChallenge (schemeOf shape) (now (h2 .entry)) e)
         (row (total (frameSizes shape)) e (now (frames .entry)))) (shape .executions) ⌝ }
     ensures { λ _. ⌜ Scratch (now (work .entry)) (now (work .exit)) ⌝ }
 {
     let w = shape.executions * shape.wide;
-    let size = shape.parties * (16 + 21 * shape.wide);
-    let mut room = [0u8; 1536];
+    let size = shape.parties * sets::row_length(shape);
+    let mut room = [0u8; 246];
     let seconds = &mut room[0..w];
     hash_inputs::draw(7, h2, seconds);
     let s = hash_inputs::tagged(3, h2);
@@ -145,10 +150,10 @@ fn finish_pass(shape: Shape, salt: &[u8], roots: &[u8], h3: &[u8], frames: &mut 
     requires { ⌜ Frames shape (now frames) × (length (now salt) ≡ 32) × (length (now roots) ≡ shape .executions * 16) × (length (now h3) ≡ 32) ⌝ }
     ensures { λ _. ⌜ now (frames .exit)
         ≡ rows (λ e. finishedFrame shape (now (salt .entry)) (row 16 e (now (roots .entry))) e
-        (hiddenParty (aesScheme shape) (now (h3 .entry)) e) (row (total (frameSizes shape)) e (now (frames .entry)))) (shape .executions) ⌝ }
+        (hiddenParty (schemeOf shape) (now (h3 .entry)) e) (row (total (frameSizes shape)) e (now (frames .entry)))) (shape .executions) ⌝ }
 {
     let p = shape.executions * 4;
-    let mut room = [0u8; 1024];
+    let mut room = [0u8; 164];
     let thirds = &mut room[0..p];
     hash_inputs::draw(8, h3, thirds);
     finish_frames::finish_frames(shape, salt, roots, thirds, frames);
@@ -167,13 +172,13 @@ fn answer_passes(
     work: &mut [u8],
 ) -> [u8; 32]
     requires { ⌜ Frames shape (now frames) × (length (now public) ≡ 32) × (length (now salt) ≡ 32) × (length (now roots) ≡ shape .executions * 16)
-        × (length (now inputs) ≡ 200) × (length (now inverses) ≡ 200) × (length (now h1) ≡ 32) × (65536 ≤ length (now work)) ⌝ }
+        × (length (now inputs) ≡ sboxes shape) × (length (now inverses) ≡ sboxes shape) × (length (now h1) ≡ 32) × (65536 ≤ length (now work)) ⌝ }
     ensures { λ r. ⌜ Answered shape (now (public .entry)) (now (salt .entry)) (now (roots .entry)) (now (inputs .entry)) (now (inverses .entry))
         (now (h1 .entry)) (now (frames .entry)) r (now (frames .exit)) ⌝ }
     ensures { λ _. ⌜ Scratch (now (work .entry)) (now (work .exit)) ⌝ }
 {
     let n = shape.executions * (shape.m1 * shape.wide);
-    let mut room = [0u8; 15360];
+    let mut room = [0u8; 2460];
     let firsts = &mut room[0..n];
     let h2 = offset_pass(shape, inputs, inverses, h1, firsts, frames);
     let h3 = open_pass(shape, public, salt, roots, &h2, firsts, frames, work);
@@ -197,7 +202,7 @@ pub fn make(
     requires { ⌜ Given shape (now key) (now public) (now salt) (now roots) (now inputs) (now inverses)
         × (length (now out) ≡ signatureLength shape) × (65536 ≤ length (now work)) ⌝ }
     ensures { λ _. ⌜ now (out .exit)
-        ≡ signature (aesScheme shape) (now (key .entry)) (now (public .entry)) (now (message .entry)) (now (salt .entry)) (now (roots .entry)) ⌝ }
+        ≡ signature (schemeOf shape) (now (key .entry)) (now (public .entry)) (now (message .entry)) (now (salt .entry)) (now (roots .entry)) ⌝ }
     ensures { λ _. ⌜ Scratch (now (work .entry)) (now (work .exit)) ⌝ }
 {
     let end = out.len();

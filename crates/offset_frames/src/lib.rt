@@ -16,9 +16,10 @@ fn offset_frame(shape: Shape, us: &[u64], vs: &[u64], lasts: &[u64], first: &[u8
     ensures { λ _. ⌜ now (frame .exit)
         ≡ offsetFrame shape (now (us .entry)) (now (vs .entry)) (now (lasts .entry)) (now (first .entry)) (now (frame .entry)) ⌝ }
 {
-    let k = shape.depth * 16 + 32;
-    let p = k + 216;
-    let b = p + 41 * shape.wide;
+    let size = sets::tape_length(shape);
+    let k = frames::offset(shape, 2);
+    let p = frames::offset(shape, 4);
+    let b = k + size;
     let n = 21 * shape.wide;
     let mut room = [0u8; 126];
     let products = &mut room[0..n];
@@ -41,7 +42,7 @@ pub fn offset_frames(
         ≡ rows (λ e. offsetFrame shape (now (us .entry)) (now (vs .entry)) (now (lasts .entry)) (row (firstChallengeLength shape) e (now (firsts .entry)))
         (row (total (frameSizes shape)) e (now (frames .entry)))) (shape .executions) ⌝ }
 {
-    let len = 248 + 16 * shape.depth + 42 * shape.wide;
+    let len = frames::frame_length(shape);
     let m = shape.m1 * shape.wide;
     let n = shape.executions;
     for e in 0..n {

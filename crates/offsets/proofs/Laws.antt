@@ -2,11 +2,11 @@
 use mathlib.Core.Path.{_≡_, ap, ap₂, _∙_}
 use mathlib.Core.List.{List}
 use Prim.Native.Nat.{ℕ, _+_, _-_, _*_}
-use native.Mathlib.Omega.{arith}
 use lib.Bits.{bitXor}
 use lib.ListN.{take, drop}
 use Rattle.slices.specs.Lists.{tab, row}
 use Rattle.slices.specs.Tab.{length-tab, getD-tab}
+use Rattle.slices.proofs.Rows.{row-cut}
 use Rattle.poly.specs.Sum.{sum, sum-cong}
 use Rattle.field.specs.Ring.{mul}
 use Rattle.field.specs.Wide.{ops}
@@ -23,8 +23,8 @@ dot-right w low n f g p q e =
 
 -- row k of both, as the code takes them; a share is added
 pub row-product : (S : Shape) (first extra us vs : List ℕ) (k last share : ℕ) {r : ℕ}
-    → r ≡ productValue S first extra (take (k * 10 + 10 - k * 10) (drop (k * 10) us)) (take (k * 10 + 10 - k * 10) (drop (k * 10) vs)) last
-    → bitXor r share ≡ bitXor (productValue S first extra (row 10 k us) (row 10 k vs) last) share
+    → let a = k * S .m1 in
+    r ≡ productValue S first extra (take (a + S .m1 - a) (drop a us)) (take (a + S .m1 - a) (drop a vs)) last
+    → bitXor r share ≡ bitXor (productValue S first extra (row (S .m1) k us) (row (S .m1) k vs) last) share
 row-product S first extra us vs k last share e =
-    let size : k * 10 + 10 - k * 10 ≡ 10 = omega arith in
-    ap (λ p. bitXor p share) (rw size at e)
+    ap (λ p. bitXor p share) (e ∙ ap₂ (λ u v. productValue S first extra u v last) (row-cut k (S .m1) us) (row-cut k (S .m1) vs))

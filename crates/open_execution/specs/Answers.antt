@@ -22,7 +22,7 @@ use Rattle.banquet.specs.declared.Answer.the-variants.{
   SecondChallengeRange,
 }
 use Rattle.banquet.specs.Shape.{publicKeyLength, firstChallengeLength, openingLength}
-use Rattle.banquet.specs.Sets.{aesScheme}
+use Rattle.banquet.specs.Sets.{schemeOf}
 use Rattle.banquet.specs.Answer.{require, cleared, workAfter, outputAfter}
 use Rattle.banquet.specs.Key.{checkKey}
 use Rattle.banquet.specs.Opening.{opening}
@@ -34,10 +34,10 @@ use Rattle.make_opening.specs.Steps.{Lengths, Ranges}
 
 module _ {S : Shape} (v : Valid S) (key publicKey salt root first : List ℕ) (e second hidden : ℕ) (output work : List ℕ) where
   abbrev answer : Answer
-  answer = openAnswer (aesScheme S) key publicKey salt root first e second hidden output work
+  answer = openAnswer (schemeOf S) key publicKey salt root first e second hidden output work
 
   abbrev made : List ℕ
-  made = opening (aesScheme S) key publicKey salt root first e second hidden
+  made = opening (schemeOf S) key publicKey salt root first e second hidden
 
   -- what an answer leaves
   abbrev output-left : Answer → List ℕ
@@ -98,7 +98,7 @@ module _ {S : Shape} (v : Valid S) (key publicKey salt root first : List ℕ) (e
     lengths-right : answer
         ≡ require (ltb e (S .executions)) ExecutionRange
         (require (ltb hidden (S .parties)) HiddenPartyRange
-        (require (leb (S .m2) second) SecondChallengeRange (checkKey (aesScheme S) publicKey key Accepted)))
+        (require (leb (S .m2) second) SecondChallengeRange (checkKey (schemeOf S) publicKey key Accepted)))
     unfolding openAnswer require
     lengths-right =
         simp (
@@ -126,16 +126,16 @@ module _ {S : Shape} (v : Valid S) (key publicKey salt root first : List ℕ) (e
     -- ---- by the key, where the numbers are right, too
 
     module _ (r : Ranges S e second hidden) where
-      ranges-right : answer ≡ checkKey (aesScheme S) publicKey key Accepted
+      ranges-right : answer ≡ checkKey (schemeOf S) publicKey key Accepted
       unfolding require
       ranges-right = lengths-right ∙ simp (lt-ltb _ _ (r .execution), lt-ltb _ _ (r .hidden-shown), le-leb _ _ least)
         where
           least : S .m2 ≤ second
           least = omega (arith, r .second-least, v .twenty)
 
-      module _ {a : Answer} (tested : a ≡ checkKey (aesScheme S) publicKey key Accepted) where
+      module _ {a : Answer} (tested : a ≡ checkKey (schemeOf S) publicKey key Accepted) where
         pub refused : Refusal a → Called a output work
-        refused h = let kept = refusal-untouched (aesScheme S) publicKey key tested h in called (ranges-right ∙ sym tested) (kept .output-kept) (kept .work-kept)
+        refused h = let kept = refusal-untouched (schemeOf S) publicKey key tested h in called (ranges-right ∙ sym tested) (kept .output-kept) (kept .work-kept)
 
         pub accepted : a ≡ Accepted → {o′ w′ : List ℕ} → o′ ≡ outputAfter Accepted made output → w′ ≡ cleared work → Called Accepted o′ w′
         unfolding workAfter

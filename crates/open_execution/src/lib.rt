@@ -5,7 +5,7 @@ ghost use mathlib.Core.Path.{_≡_};
 ghost use Prim.Native.Nat.{_*_, _^_, _<_, _≤_};
 ghost use lib.ListN.{length};
 ghost use Rattle.banquet.specs.Shape.{openingLength};
-ghost use Rattle.banquet.specs.Sets.{aesScheme};
+ghost use Rattle.banquet.specs.Sets.{schemeOf};
 ghost use Rattle.banquet.specs.Calls.{openExecution};
 ghost use Rattle.sets.specs.Valid.{Valid};
 ghost use Rattle.make_opening.specs.Steps.{Lengths};
@@ -27,13 +27,13 @@ fn open_key(
     requires { ⌜ Lengths shape (now key) (now public) (now salt) (now root) (now first)
         × (second < 2 ^ (8 * shape .wide)) × (openingLength shape ≤ length (now out)) × (65536 ≤ length (now work)) ⌝ }
     ensures { λ r. ⌜ r
-        ≡ openExecution (aesScheme shape) (now (key .entry)) (now (public .entry)) (now (salt .entry)) (now (root .entry)) (now (first .entry))
+        ≡ openExecution (schemeOf shape) (now (key .entry)) (now (public .entry)) (now (salt .entry)) (now (root .entry)) (now (first .entry))
         e second hidden (now (out .entry)) (now (work .entry)) .answer ⌝ }
     ensures { λ _. ⌜ now (out .exit)
-        ≡ openExecution (aesScheme shape) (now (key .entry)) (now (public .entry)) (now (salt .entry)) (now (root .entry)) (now (first .entry))
+        ≡ openExecution (schemeOf shape) (now (key .entry)) (now (public .entry)) (now (salt .entry)) (now (root .entry)) (now (first .entry))
         e second hidden (now (out .entry)) (now (work .entry)) .output ⌝ }
     ensures { λ _. ⌜ now (work .exit)
-        ≡ openExecution (aesScheme shape) (now (key .entry)) (now (public .entry)) (now (salt .entry)) (now (root .entry)) (now (first .entry))
+        ≡ openExecution (schemeOf shape) (now (key .entry)) (now (public .entry)) (now (salt .entry)) (now (root .entry)) (now (first .entry))
         e second hidden (now (out .entry)) (now (work .entry)) .work ⌝ }
 {
     if e >= shape.executions {
@@ -45,14 +45,16 @@ fn open_key(
     if second < (shape.m2 as u64) {
         return Answer::SecondChallengeRange;
     }
-    let mut inputs = [0u8; 200];
-    let answer = check_key::check_key(shape, key, public, &mut inputs);
+    let n = shape.m1 * shape.m2;
+    let mut given = [0u8; 200];
+    let mut inverted = [0u8; 200];
+    let inputs = &mut given[0..n];
+    let inverses = &mut inverted[0..n];
+    let answer = check_key::check_key(shape, key, public, inputs, inverses);
     match answer {
         Answer::Accepted => {}
         _ => return answer,
     }
-    let mut inverses = inputs;
-    sbox_inputs::invert(&mut inverses);
     make_opening::make(
         shape,
         key,
@@ -63,8 +65,8 @@ fn open_key(
         e as u8,
         second,
         hidden,
-        &inputs,
-        &inverses,
+        inputs,
+        inverses,
         out,
         work,
     );
@@ -88,13 +90,13 @@ pub fn open_execution(
 ) -> Answer
     requires { ⌜ Valid shape × (second < 2 ^ (8 * shape .wide)) ⌝ }
     ensures { λ r. ⌜ r
-        ≡ openExecution (aesScheme shape) (now (key .entry)) (now (public .entry)) (now (salt .entry)) (now (root .entry)) (now (first .entry))
+        ≡ openExecution (schemeOf shape) (now (key .entry)) (now (public .entry)) (now (salt .entry)) (now (root .entry)) (now (first .entry))
         e second hidden (now (out .entry)) (now (work .entry)) .answer ⌝ }
     ensures { λ _. ⌜ now (out .exit)
-        ≡ openExecution (aesScheme shape) (now (key .entry)) (now (public .entry)) (now (salt .entry)) (now (root .entry)) (now (first .entry))
+        ≡ openExecution (schemeOf shape) (now (key .entry)) (now (public .entry)) (now (salt .entry)) (now (root .entry)) (now (first .entry))
         e second hidden (now (out .entry)) (now (work .entry)) .output ⌝ }
     ensures { λ _. ⌜ now (work .exit)
-        ≡ openExecution (aesScheme shape) (now (key .entry)) (now (public .entry)) (now (salt .entry)) (now (root .entry)) (now (first .entry))
+        ≡ openExecution (schemeOf shape) (now (key .entry)) (now (public .entry)) (now (salt .entry)) (now (root .entry)) (now (first .entry))
         e second hidden (now (out .entry)) (now (work .entry)) .work ⌝ }
 {
     if key.len() != 16 {

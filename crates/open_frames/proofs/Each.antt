@@ -2,7 +2,6 @@
 use mathlib.Core.Path.{_≡_, sym, ap, _∙_}
 use mathlib.Core.List.{List}
 use Prim.Native.Nat.{ℕ, _+_, _-_, _*_, _<_, _≤_}
-use native.Mathlib.Nat.{mul-le-mul}
 use native.Mathlib.Omega.{arith}
 use lib.ListN.{take, drop}
 use Rattle.slices.specs.Lists.{row}
@@ -13,8 +12,8 @@ use Rattle.banquet.specs.declared.Shape.{Shape}
 use Rattle.banquet.specs.Shape.{frameSizes, firstChallengeLength}
 use Rattle.banquet.specs.Hash.{evaluationPoint}
 use Rattle.sets.specs.Valid.{Valid}
-use Rattle.sets.specs.Bounds.{by-ten}
-use Rattle.frames.specs.Frames.{frame-total, frames-most}
+use Rattle.sets.specs.Bounds.{firsts-most}
+use Rattle.frames.specs.Frames.{frames-most}
 
 -- what an execution makes of the front, the salt, its root, its number, its challenges and its frame
 abbrev pub Step : Type 0
@@ -26,33 +25,24 @@ each f S salt roots front firsts seconds frames e =
     f S front salt (row 16 e roots) e (row (firstChallengeLength S) e firsts) (evaluationPoint (S .m2) (numberAt (S .wide) e seconds))
     (row (total (frameSizes S)) e frames)
 
--- a frame's length
-abbrev pub len : Shape → ℕ
-len S = 248 + 16 * S .depth + 42 * S .wide
-
-module _ {S : Shape} (v : Valid S) where
+module _ {S : Shape} (v : Valid S) {len : ℕ} (size : len ≡ total (frameSizes S)) where
   open Shape S using (executions, wide)
 
-  pub frames-whole : {n : ℕ} → n ≡ executions * total (frameSizes S) → n ≡ executions * len S
-  frames-whole h = h ∙ ap (executions *_) (frame-total v)
-
-  pub first-small : firstChallengeLength S ≤ 60
-  first-small = omega (arith, by-ten v wide, v .wide-most)
+  pub frames-whole : {n : ℕ} → n ≡ executions * total (frameSizes S) → n ≡ executions * len
+  frames-whole h = h ∙ ap (executions *_) (sym size)
 
   module _ {e : ℕ} (l : e < executions) where
-    pub first-most : e * firstChallengeLength S + firstChallengeLength S ≤ 15360
-    first-most = omega (arith, row-fits (firstChallengeLength S) l, mul-le-mul (v .brief) first-small)
+    pub first-most : e * firstChallengeLength S + firstChallengeLength S ≤ 2460
+    first-most = omega (arith, row-fits (firstChallengeLength S) l, firsts-most v)
 
-    pub frame-most : e * len S + len S ≤ 156672
-    frame-most =
-        let all : executions * len S ≤ 156672 = rw (frame-total v) at (frames-most v) in
-        omega (arith, row-fits (len S) l, all)
+    pub frame-most : e * len + len ≤ 25092
+    frame-most = omega (arith, row-fits len l, frames-most v, ap (executions *_) size)
 
   -- as the code cuts it out
   pub each-cut : (salt roots front firsts seconds frames : List ℕ) (e : ℕ) {second : ℕ} {frame : List ℕ}
-      → second ≡ evaluationPoint (S .m2) (numberAt wide e seconds) → frame ≡ row (len S) e frames → (f : Step)
+      → second ≡ evaluationPoint (S .m2) (numberAt wide e seconds) → frame ≡ row len e frames → (f : Step)
       → f S front salt (take (e * 16 + 16 - e * 16) (drop (e * 16) roots)) e
       (take (e * firstChallengeLength S + firstChallengeLength S - e * firstChallengeLength S) (drop (e * firstChallengeLength S) firsts)) second frame
       ≡ each f S salt roots front firsts seconds frames e
   each-cut salt roots front firsts seconds frames e p q f =
-      rw (row-cut e 16 roots, row-cut e (firstChallengeLength S) firsts, p, q ∙ ap (λ z. row z e frames) (sym (frame-total v)))
+      rw (row-cut e 16 roots, row-cut e (firstChallengeLength S) firsts, p, q ∙ ap (λ z. row z e frames) size)

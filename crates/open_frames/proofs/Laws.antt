@@ -11,24 +11,24 @@ use Rattle.slices.specs.Lists.{rows, row, put, sumXor}
 use Rattle.slices.specs.Tab.{rows-cong, row-of-rows}
 use Rattle.slices.specs.Sums.{sumXor-cong}
 use Rattle.slices.specs.Numbers.{length-bytesOf, length-numbers}
-use Rattle.slices.specs.Layout.{field}
+use Rattle.slices.specs.Layout.{total}
 use Rattle.absorb_rows.proofs.Laws.{more}
 use Rattle.shake.specs.Shake128.{shake128}
 use Rattle.stream.specs.declared.Sponge.{Sponge}
 use Rattle.stream.specs.Stream.{absorbed}
 use Rattle.columns.specs.Column.{columnOf}
-use Rattle.circuit.specs.Sizes.{length-outputShare}
 use Rattle.banquet.specs.declared.Shape.{Shape}
-use Rattle.banquet.specs.Shape.{frameSizes}
-use Rattle.banquet.specs.Sets.{aesScheme}
+use Rattle.banquet.specs.Sets.{schemeOf}
 use Rattle.banquet.specs.Hash.{tape}
 use Rattle.banquet.specs.Tree.{nodeSeeds, leaves}
-use Rattle.banquet.specs.Execution.{Committed, Challenge, challenge, outputShare}
+use Rattle.banquet.specs.Execution.{Committed, Challenge, challenge}
+use Rattle.banquet.specs.Signature.{framePart}
 use Rattle.sets.specs.Valid.{Valid}
-use Rattle.sets.specs.Bounds.{by-ten}
+use Rattle.sets.specs.Circuit.{output-long}
+use Rattle.sets.specs.Bounds.{rowSizes}
 use Rattle.forms.specs.Party.{committed, shareRow}
 use Rattle.leaf_seeds.specs.Seeds.{seeds-row}
-use Rattle.signing.specs.Steps.{offsetsAt, frameShares, openedFrame, openedPart}
+use Rattle.signing.specs.Steps.{offsetsAt, witnessLength, openedLength, frameShares, openedFrame, openedPart}
 
 -- ---- a front that is lent as `&mut d[0..n]`
 
@@ -45,34 +45,30 @@ module _ {S : Shape} (v : Valid S) where
   open Shape S using (parties, depth, wide, m1)
 
   abbrev pub size : ℕ
-  size = 16 + 21 * wide
+  size = total (rowSizes S)
 
-  length-output : (x : Committed) (i : ℕ) (t : List ℕ) → length (outputShare (aesScheme S) x i t) ≡ 16
-  unfolding outputShare
-  length-output x i t = length-outputShare _
-
-  length-shares : (x : Committed) (d : Challenge) (i : ℕ) (t : List ℕ) → length (shareRow (aesScheme S) x d i t) ≡ size
+  length-shares : (x : Committed) (d : Challenge) (i : ℕ) (t : List ℕ) → length (shareRow (schemeOf S) x d i t) ≡ size
   unfolding shareRow
   length-shares x d i t =
-      simp (length-append, length-bytesOf, length-numbers) (omega (arith, length-output x i t, by-ten v wide))
+      simp (length-append, length-bytesOf, length-numbers) (omega (arith, output-long S x i t))
 
   module _ (front salt root : List ℕ) (e : ℕ) (first : List ℕ) (second : ℕ) (frame : List ℕ) where
     abbrev shares : ℕ → List ℕ
     shares = frameShares S front salt root e first second frame
 
     -- as `share_rows` leaves them
-    pub rows-opened : {sizes seeds key inverse product out : List ℕ} → length root ≡ 16
-        → seeds ≡ nodeSeeds (leaves shake128 salt e depth 0 root) ++ replicate (2048 - 16 * 2 ^ depth) 0 → sizes ≡ frameSizes S
-        → key ≡ field sizes 2 frame → inverse ≡ field sizes 3 frame → product ≡ field sizes 4 frame
-        → out ≡ rows (λ i. shareRow (aesScheme S) (committed front key inverse) (challenge (aesScheme S) first product second) i
-        (tape (aesScheme S) salt e i (row 16 i seeds))) parties
+    pub rows-opened : {seeds key inverse product out : List ℕ} → length root ≡ 16
+        → seeds ≡ nodeSeeds (leaves shake128 salt e depth 0 root) ++ replicate (2048 - 16 * 2 ^ depth) 0
+        → key ≡ framePart (schemeOf S) frame 2 → inverse ≡ framePart (schemeOf S) frame 3 → product ≡ framePart (schemeOf S) frame 4
+        → out ≡ rows (λ i. shareRow (schemeOf S) (committed front key inverse) (challenge (schemeOf S) first product second) i
+        (tape (schemeOf S) salt e i (row 16 i seeds))) parties
         → out ≡ rows shares parties
     unfolding frameShares
-    rows-opened {sizes} {seeds} {key} {inverse} {product} h w is k i p o =
+    rows-opened {seeds} {key} {inverse} {product} h w k i p o =
         o
-        ∙ rows-cong parties (λ j l. ap (λ seed. shareRow (aesScheme S) (committed front key inverse) (challenge (aesScheme S) first product second) j
-        (tape (aesScheme S) salt e j seed)) (seeds-row v salt root e h w j l))
-        ∙ rw (k, i, p, is) refl
+        ∙ rows-cong parties (λ j l. ap (λ seed. shareRow (schemeOf S) (committed front key inverse) (challenge (schemeOf S) first product second) j
+        (tape (schemeOf S) salt e j seed)) (seeds-row v salt root e h w j l))
+        ∙ rw (k, i, p) refl
 
     shares-long : (i : ℕ) → length (shares i) ≡ size
     unfolding frameShares
@@ -87,21 +83,21 @@ module _ {S : Shape} (v : Valid S) where
       sums-made e h = h ∙ ap (λ k. sumXor parties (λ i. row k i made)) e ∙ sumXor-cong parties row-made
 
       -- each party's c, a and b
-      pub column-made : columnOf parties size 16 (21 * wide) made ≡ rows (λ i. drop 16 (shares i)) parties
+      pub column-made : columnOf parties size 16 (openedLength S) made ≡ rows (λ i. drop 16 (shares i)) parties
       column-made =
-          rows-cong parties (λ i l. ap (λ s. take (21 * wide) (drop 16 s)) (row-made i l)
-          ∙ take-all (21 * wide) (drop 16 (shares i)) (omega (arith, length-drop 16 (shares i), shares-long i)))
+          rows-cong parties (λ i l. ap (λ s. take (openedLength S) (drop 16 s)) (row-made i l)
+          ∙ take-all (openedLength S) (drop 16 (shares i)) (omega (arith, length-drop 16 (shares i), shares-long i)))
 
       module _ {sums opened : List ℕ} (s : sums ≡ sumXor parties shares) (o : opened ≡ drop 16 sums) where
-        pub frame-opened : {at : ℕ} {out : List ℕ} → at ≡ offsetsAt S + 216 + 21 * wide → out ≡ put frame at opened
+        pub frame-opened : {at : ℕ} {out : List ℕ} → at ≡ offsetsAt S + witnessLength S + 21 * wide → out ≡ put frame at opened
             → out ≡ openedFrame S front salt root e first second frame
         unfolding openedFrame
         frame-opened a p = p ∙ ap₂ (put frame) a (o ∙ ap (drop 16) s)
 
-        pub part-opened : (start : Sponge) {t u : Sponge} → t ≡ absorbed start opened
-            → u ≡ absorbed t (columnOf parties size 16 (21 * wide) made)
+        pub part-opened : (start : Sponge) {t u : Sponge} {n w : ℕ} → n ≡ size → w ≡ openedLength S → t ≡ absorbed start opened
+            → u ≡ absorbed t (columnOf parties n 16 w made)
             → u ≡ absorbed start (openedPart S front salt root e first second frame)
         unfolding openedPart
-        part-opened start p q =
-            more start opened (columnOf parties size 16 (21 * wide) made) p q
+        part-opened start {t} n-is w-is p q =
+            more start opened (columnOf parties size 16 (openedLength S) made) p (q ∙ ap₂ (λ n w. absorbed t (columnOf parties n 16 w made)) n-is w-is)
             ∙ ap₂ (λ x y. absorbed start (x ++ y)) (o ∙ ap (drop 16) s) column-made

@@ -9,7 +9,6 @@ ghost use Rattle.slices.specs.Lists.{rows as rowsOf, row};
 ghost use Rattle.slices.specs.Layout.{total};
 ghost use Rattle.stream.specs.Stream.{absorbed};
 ghost use Rattle.banquet.specs.Shape.{frameSizes, firstChallengeLength};
-ghost use Rattle.banquet.specs.Sets.{aesScheme};
 ghost use Rattle.banquet.specs.Hash.{evaluationPoint};
 ghost use Rattle.slices.specs.Numbers.{numberAt};
 ghost use Rattle.sets.specs.Valid.{Valid};
@@ -28,7 +27,7 @@ fn open_rows(
     frame: &[u8],
     rows: &mut [u8],
 )
-    requires { ⌜ Valid shape × (length (now salt) ≡ 32) × (length (now root) ≡ 16) × (length (now front) ≡ 16)
+    requires { ⌜ Valid shape × (length (now salt) ≡ 32) × (length (now root) ≡ 16) × (length (now front) ≡ shape .front)
         × (length (now first) ≡ firstChallengeLength shape) × (second < 2 ^ (8 * shape .wide))
         × (length (now frame) ≡ total (frameSizes shape)) × (length (now rows) ≡ shape .parties * total (rowSizes shape)) ⌝ }
     ensures { λ _. ⌜ now (rows .exit)
@@ -36,18 +35,16 @@ fn open_rows(
         (shape .parties) ⌝ }
 {
     let seeds = leaf_seeds::leaf_seeds(shape, salt, e, root);
-    let sizes = frames::frame_sizes(shape);
-    let all: &[usize] = &sizes;
     execution::share_rows(
         shape,
         salt,
         e,
         &seeds,
         front,
-        fields::field(all, 2, frame),
-        fields::field(all, 3, frame),
+        frames::part(shape, 2, frame),
+        frames::part(shape, 3, frame),
         first,
-        fields::field(all, 4, frame),
+        frames::part(shape, 4, frame),
         second,
         rows,
     );
@@ -66,7 +63,7 @@ fn open_frame(
     rows: &mut [u8],
     s: Sponge,
 ) -> Sponge
-    requires { ⌜ Valid shape × (length (now salt) ≡ 32) × (length (now root) ≡ 16) × (length (now front) ≡ 16)
+    requires { ⌜ Valid shape × (length (now salt) ≡ 32) × (length (now root) ≡ 16) × (length (now front) ≡ shape .front)
         × (length (now first) ≡ firstChallengeLength shape) × (second < 2 ^ (8 * shape .wide))
         × (length (now frame) ≡ total (frameSizes shape)) × (length (now rows) ≡ shape .parties * total (rowSizes shape)) ⌝ }
     ensures { λ _. ⌜ now (frame .exit)
@@ -75,12 +72,12 @@ fn open_frame(
         ≡ absorbed s (openedPart shape (now (front .entry)) (now (salt .entry)) (now (root .entry)) e (now (first .entry)) second (now (frame .entry))) ⌝ }
 {
     open_rows(shape, salt, e, root, front, first, second, frame, rows);
-    let w = 21 * shape.wide;
-    let len = 16 + w;
+    let len = sets::row_length(shape);
+    let w = len - 16;
     let mut sums = [0u8; 142];
     row_sums::sum_rows(shape.parties, rows, &mut sums[0..len]);
     let opened = &sums[16..len];
-    let q = shape.depth * 16 + 248 + w;
+    let q = frame.len() - w;
     slices::copy_at(frame, q, opened);
     let t = absorb::absorb(s, opened);
     absorb_rows::absorb_column(t, shape.parties, len, 16, w, rows)
@@ -98,7 +95,7 @@ pub fn open_frames(
     rows: &mut [u8],
     start: Sponge,
 ) -> Sponge
-    requires { ⌜ Valid shape × (length (now salt) ≡ 32) × (length (now roots) ≡ shape .executions * 16) × (length (now front) ≡ 16)
+    requires { ⌜ Valid shape × (length (now salt) ≡ 32) × (length (now roots) ≡ shape .executions * 16) × (length (now front) ≡ shape .front)
         × (length (now firsts) ≡ shape .executions * firstChallengeLength shape) × (length (now seconds) ≡ shape .executions * shape .wide)
         × (length (now frames) ≡ shape .executions * total (frameSizes shape)) × (length (now rows) ≡ shape .parties * total (rowSizes shape)) ⌝ }
     ensures { λ _. ⌜ now (frames .exit)
@@ -110,7 +107,7 @@ pub fn open_frames(
         (row (firstChallengeLength shape) e (now (firsts .entry))) (evaluationPoint (shape .m2) (numberAt (shape .wide) e (now (seconds .entry))))
         (row (total (frameSizes shape)) e (now (frames .entry)))) (shape .executions)) ⌝ }
 {
-    let len = 248 + 16 * shape.depth + 42 * shape.wide;
+    let len = frames::frame_length(shape);
     let m = shape.m1 * shape.wide;
     let n = shape.executions;
     let mut t = start;

@@ -3,6 +3,7 @@ use banquet::Shape;
 ghost use mathlib.Core.Path.{_≡_};
 ghost use lib.ListN.{length, getD};
 ghost use Rattle.slices.specs.Lists.{tab};
+ghost use Rattle.banquet.specs.Shape.{sboxes};
 ghost use Rattle.sets.specs.Valid.{Valid};
 ghost use Rattle.forms.specs.Point.{tabledRow, xorSum};
 
@@ -17,10 +18,10 @@ pub fn sum(s: &[u64]) -> u64
     x
 }
 
-// For each j what the tables give for the bytes j, j + 10, ..
+// For each j what the tables give for the bytes j, j + m1, ..
 pub fn rows(shape: Shape, bytes: &[u8], tables: &[u64], out: &mut [u64])
-    requires { ⌜ Valid shape × (length (now bytes) ≡ 200) × (length (now tables) ≡ 640) × (length (now out) ≡ 10) ⌝ }
-    ensures { λ _. ⌜ now (out .exit) ≡ tab (tabledRow shape (now (bytes .entry)) (now (tables .entry))) 10 ⌝ }
+    requires { ⌜ Valid shape × (length (now bytes) ≡ sboxes shape) × (length (now tables) ≡ 640) × (length (now out) ≡ shape .m1) ⌝ }
+    ensures { λ _. ⌜ now (out .exit) ≡ tab (tabledRow shape (now (bytes .entry)) (now (tables .entry))) (shape .m1) ⌝ }
 {
     for j in 0..out.len() {
         out[j] = dots::dot_tables(tables, bytes, shape.m2, shape.m1, j);

@@ -1,6 +1,8 @@
 // The sizes of an opening, which follow from a parameter set.
 use banquet::Shape;
 ghost use mathlib.Core.Path.{_≡_};
+ghost use Prim.Native.Nat.{_≤_};
+ghost use Rattle.slices.specs.Layout.{total};
 ghost use Rattle.banquet.specs.Shape.{transcriptSizes, openingLength};
 ghost use Rattle.sets.specs.Valid.{Valid};
 
@@ -25,11 +27,18 @@ pub fn transcript_sizes(shape: Shape) -> [usize; 12]
     ]
 }
 
+// The bytes of an opening before the hidden party.
+pub fn transcript_length(shape: Shape) -> usize
+    requires { ⌜ Valid shape ⌝ }
+    ensures { λ r. ⌜ (r ≡ total (transcriptSizes shape)) × (r ≤ 22713) ⌝ }
+{
+    fields::offset(&transcript_sizes(shape), 12)
+}
+
 // The bytes of an opening.
 pub fn opening_length(shape: Shape) -> usize
     requires { ⌜ Valid shape ⌝ }
-    ensures { λ r. ⌜ r ≡ openingLength shape ⌝ }
+    ensures { λ r. ⌜ (r ≡ openingLength shape) × (r ≤ 22826) ⌝ }
 {
-    let sizes = transcript_sizes(shape);
-    fields::offset(&sizes, 12) + (1 + shape.depth * 16)
+    transcript_length(shape) + (1 + shape.depth * 16)
 }

@@ -5,8 +5,8 @@ ghost use Prim.Native.Nat.{_*_};
 ghost use lib.ListN.{length};
 ghost use Rattle.slices.specs.Lists.{rows, row};
 ghost use Rattle.slices.specs.Layout.{total};
-ghost use Rattle.banquet.specs.Shape.{tapeSizes};
-ghost use Rattle.banquet.specs.Sets.{aesScheme};
+ghost use Rattle.banquet.specs.Shape.{sboxes, tapeSizes};
+ghost use Rattle.banquet.specs.Sets.{schemeOf};
 ghost use Rattle.banquet.specs.Execution.{outputShare};
 ghost use Rattle.sets.specs.Valid.{Valid};
 ghost use Rattle.forms.specs.Party.{committed};
@@ -20,15 +20,18 @@ pub fn output_shares(
     tapes: &[u8],
     out: &mut [u8],
 )
-    requires { ⌜ Valid shape × (length (now front) ≡ 16) × (length (now key) ≡ 16) × (length (now inverse) ≡ 200)
+    requires { ⌜ Valid shape × (length (now front) ≡ shape .front) × (length (now key) ≡ 16) × (length (now inverse) ≡ sboxes shape)
         × (length (now tapes) ≡ shape .parties * total (tapeSizes shape)) × (length (now out) ≡ shape .parties * 16) ⌝ }
     ensures { λ _. ⌜ now (out .exit)
-        ≡ rows (λ i. outputShare (aesScheme shape) (committed (now (front .entry)) (now (key .entry)) (now (inverse .entry))) i
+        ≡ rows (λ i. outputShare (schemeOf shape) (committed (now (front .entry)) (now (key .entry)) (now (inverse .entry))) i
         (row (total (tapeSizes shape)) i (now (tapes .entry)))) (shape .parties) ⌝ }
 {
-    let size = 216 + 41 * shape.wide;
-    let mut inverses = [0u8; 200];
-    let mut inputs = [0u8; 200];
+    let size = sets::tape_length(shape);
+    let sboxes = shape.m1 * shape.m2;
+    let mut inverted = [0u8; 200];
+    let mut given = [0u8; 200];
+    let inverses = &mut inverted[0..sboxes];
+    let inputs = &mut given[0..sboxes];
     let n = shape.parties;
     for i in 0..n {
         let a = i * size;
@@ -40,8 +43,8 @@ pub fn output_shares(
             key,
             inverse,
             &tapes[a..b],
-            &mut inverses,
-            &mut inputs,
+            inverses,
+            inputs,
         );
         slices::copy_at(out, i * 16, &share);
     }

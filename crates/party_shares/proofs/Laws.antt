@@ -11,18 +11,17 @@ use mir.Syntax.{w64}
 use mir.Val.{Fits}
 use borrow.Rule.Slice.PartMut.{putMid}
 use Rattle.slices.specs.Lists.{tab, put}
-use Rattle.slices.specs.Tab.{getD-tab, rows-cong}
+use Rattle.slices.specs.Tab.{length-tab, getD-tab, rows-cong}
 use Rattle.slices.specs.Layout.{total}
 use Rattle.slices.specs.Numbers.{bytesOf, numberAt, numbers}
 use Rattle.slices.proofs.Put.{put-mid, length-put, put-pair, wrote-none, wrote-more, wrote-all}
 use Rattle.poly.specs.Index.{at-same, at-other}
 use Rattle.lagrange.specs.Values.{dotProduct}
-use Rattle.circuit.specs.Circuit.{share, party}
 use Rattle.banquet.specs.declared.Shape.{Shape}
-use Rattle.banquet.specs.Sets.{aesScheme}
+use Rattle.banquet.specs.Sets.{schemeOf}
 use Rattle.banquet.specs.Execution.{Committed, tapePart, inverseShares, inputShares, outputShare}
 use Rattle.sets.specs.Valid.{Valid}
-use Rattle.sets.specs.Bounds.{rowSizes, row-total}
+use Rattle.sets.specs.Bounds.{rowSizes, columns-most}
 use Rattle.forms.specs.Point.{tabledRow, valueS, valueT}
 use Rattle.forms.specs.Party.{committed, own, ownProducts, workedC, workedA, workedB, workedRow}
 
@@ -47,38 +46,35 @@ module _ {S : Shape} (v : Valid S) where
 
   -- ---- numbers that are loaded and stored
 
-  pub drawn-room : {n : ℕ} → n ≡ 2 * m1 * wide → 20 * wide ≤ n
-  drawn-room h = omega (arith, h, ap (λ m. 2 * m * wide) (v .ten))
+  pub half-word : Fits w64 (m1 * wide)
+  half-word = omega (arith, columns-most v)
 
-  pub half-word : Fits w64 (10 * wide)
-  half-word = omega (arith, v .wide-most)
-
-  module _ {n : ℕ} (h : n ≡ 20 * wide) where
-    pub half-room : 10 * wide ≤ n
+  module _ {n : ℕ} (h : n ≡ 2 * (m1 * wide)) where
+    pub half-room : m1 * wide ≤ n
     half-room = omega (arith, h)
 
-    pub halves : n ≡ 10 * wide + 10 * wide
+    pub halves : n ≡ m1 * wide + m1 * wide
     halves = omega (arith, h)
 
-    pub halves-room : n ≤ 10 * wide + (n - 10 * wide)
+    pub halves-room : n ≤ m1 * wide + (n - m1 * wide)
     halves-room = omega (arith, h)
 
-  pub store-fits : {n m : ℕ} → m ≡ 10 * wide → n ≡ 10 → (wide ≤ 8) × (m ≡ n * wide)
+  pub store-fits : {n m : ℕ} → m ≡ m1 * wide → n ≡ m1 → (wide ≤ 8) × (m ≡ n * wide)
   store-fits h e = (omega (arith, v .wide-most), rw e h)
 
-  -- ten numbers, of which each is made of the number of a row and of others
-  pub stored : (f : ℕ → ℕ → ℕ) (g : ℕ → ℕ) {rows values out : List ℕ} → rows ≡ tab g 10 → values ≡ tab (λ j. f j (getD rows j 0)) 10
+  -- a number for each j, made of the number of a row and of others
+  pub stored : (f : ℕ → ℕ → ℕ) (g : ℕ → ℕ) {rows values out : List ℕ} → rows ≡ tab g m1 → values ≡ tab (λ j. f j (getD rows j 0)) m1
       → out ≡ numbers wide (length values) (λ k. getD values k 0) → out ≡ numbers wide m1 (λ j. f j (g j))
   stored f g {rows} {values} e h k =
       k ∙ ap (λ s. numbers wide (length s) (λ k. getD s k 0)) h
-      ∙ rows-cong 10
+      ∙ ap (λ n. numbers wide n (λ k. getD (tab (λ j. f j (getD rows j 0)) m1) k 0)) (length-tab _ m1)
+      ∙ rows-cong m1
       (λ j l. ap (bytesOf wide)
-      (getD-tab (λ j. f j (getD rows j 0)) 10 j 0 l ∙ ap (λ s. f j (getD s j 0)) e ∙ ap (f j) (getD-tab g 10 j 0 l)))
-      ∙ ap (λ n. numbers wide n (λ j. f j (g j))) (sym (v .ten))
+      (getD-tab (λ j. f j (getD rows j 0)) m1 j 0 l ∙ ap (λ s. f j (getD s j 0)) e ∙ ap (f j) (getD-tab g m1 j 0 l)))
 
   -- ---- the share of c
 
-  pub products-are : (product t : List ℕ) (i : ℕ) {p scratch out : List ℕ} {n : ℕ} → p ≡ tapePart (aesScheme S) 3 t → scratch ≡ own i p product
+  pub products-are : (product t : List ℕ) (i : ℕ) {p scratch out : List ℕ} {n : ℕ} → p ≡ tapePart (schemeOf S) 3 t → scratch ≡ own i p product
       → n ≡ 21 → out ≡ tab (λ k. numberAt wide k scratch) n → out ≡ ownProducts S product i t
   products-are product t i e f l h =
       h ∙ ap₂ (λ s n. tab (λ k. numberAt wide k s) n) (f ∙ ap (λ s. own i s product) e) l
@@ -98,10 +94,11 @@ module _ {S : Shape} (v : Valid S) where
 
   -- ---- the shares of a and b
 
-  module _ (first tables : List ℕ) (last : ℕ) (t : List ℕ) {p extra : List ℕ} (e : p ≡ tapePart (aesScheme S) 2 t)
-      (h : extra ≡ tab (λ k. numberAt wide k p) 20) where
-    extra-at : (k : ℕ) → k < 20 → getD extra k 0 ≡ numberAt wide k (tapePart (aesScheme S) 2 t)
-    extra-at k l = ap (λ s. getD s k 0) h ∙ getD-tab (λ k. numberAt wide k p) 20 k 0 l ∙ ap (numberAt wide k) e
+  module _ (first tables : List ℕ) (last : ℕ) (t : List ℕ) {p extra : List ℕ} (e : p ≡ tapePart (schemeOf S) 2 t)
+      {n : ℕ} (n-is : n ≡ 2 * m1) (h : extra ≡ tab (λ k. numberAt wide k p) n) where
+    extra-at : (k : ℕ) → k < 2 * m1 → getD extra k 0 ≡ numberAt wide k (tapePart (schemeOf S) 2 t)
+    extra-at k l =
+        ap (λ s. getD s k 0) (h ∙ ap (tab (λ k. numberAt wide k p)) n-is) ∙ getD-tab (λ k. numberAt wide k p) (2 * m1) k 0 l ∙ ap (numberAt wide k) e
 
     pub a-worked : (inputs : List ℕ) {y : List ℕ}
         → y ≡ numbers wide m1 (λ j. valueS S (getD first j 0) (tabledRow S inputs tables j) (getD extra (2 * j) 0) last)
@@ -110,7 +107,7 @@ module _ {S : Shape} (v : Valid S) where
     a-worked inputs g =
         g
         ∙ rows-cong m1
-        (λ j l. ap (λ s. bytesOf wide (valueS S (getD first j 0) (tabledRow S inputs tables j) s last)) (extra-at (2 * j) (omega (arith, v .ten))))
+        (λ j l. ap (λ s. bytesOf wide (valueS S (getD first j 0) (tabledRow S inputs tables j) s last)) (extra-at (2 * j) (omega arith)))
 
     pub b-worked : (inverses : List ℕ) {y : List ℕ}
         → y ≡ numbers wide m1 (λ j. valueT S (tabledRow S inverses tables j) (getD extra (2 * j + 1) 0) last)
@@ -119,14 +116,14 @@ module _ {S : Shape} (v : Valid S) where
     b-worked inverses g =
         g
         ∙ rows-cong m1
-        (λ j l. ap (λ s. bytesOf wide (valueT S (tabledRow S inverses tables j) s last)) (extra-at (2 * j + 1) (omega (arith, v .ten))))
+        (λ j l. ap (λ s. bytesOf wide (valueT S (tabledRow S inverses tables j) s last)) (extra-at (2 * j + 1) (omega arith)))
 
   -- ---- all of them
 
-  pub row-size : {n : ℕ} → n ≡ total (rowSizes S) → n ≡ 16 + wide + 20 * wide
-  row-size h = omega (arith, h, row-total v)
+  pub row-size : {n : ℕ} → n ≡ total (rowSizes S) → n ≡ 16 + wide + 2 * (m1 * wide)
+  row-size h = omega (arith, h)
 
-  module _ {n : ℕ} (h : n ≡ 16 + wide + 20 * wide) where
+  module _ {n : ℕ} (h : n ≡ 16 + wide + 2 * (m1 * wide)) where
     pub output-room : 16 ≤ n
     output-room = omega (arith, h)
 
@@ -143,8 +140,8 @@ module _ {S : Shape} (v : Valid S) where
     abbrev x′ : Committed
     x′ = committed front key inverse
 
-    pub row-is : {y inverses inputs z : List ℕ} {c : ℕ} → y ≡ outputShare (aesScheme S) x′ i t → inverses ≡ inverseShares (aesScheme S) x′ i t
-        → inputs ≡ inputShares (aesScheme S) x′ i t → c ≡ workedC S product far given i t
+    pub row-is : {y inverses inputs z : List ℕ} {c : ℕ} → y ≡ outputShare (schemeOf S) x′ i t → inverses ≡ inverseShares (schemeOf S) x′ i t
+        → inputs ≡ inputShares (schemeOf S) x′ i t → c ≡ workedC S product far given i t
         → z ≡ numbers wide m1 (workedA S first tables last t inputs) ++ numbers wide m1 (workedB S first tables last t inverses)
         → y ++ (bytesOf wide c ++ z) ≡ workedRow S x′ product first far given tables last i t
     unfolding workedRow

@@ -6,8 +6,7 @@ ghost use mathlib.Core.List.{_++_};
 ghost use lib.ListN.{length};
 ghost use Rattle.slices.specs.Layout.{total};
 ghost use Rattle.slices.specs.Numbers.{numbers};
-ghost use Rattle.banquet.specs.Shape.{tapeSizes, productPoints};
-ghost use Rattle.banquet.specs.Sets.{aesScheme};
+ghost use Rattle.banquet.specs.Shape.{sboxes, tapeSizes, productPoints};
 ghost use Rattle.sets.specs.Valid.{Valid};
 ghost use Rattle.sets.specs.Bounds.{rowSizes};
 ghost use Rattle.forms.specs.Party.{committed, workedC, workedA, workedB, workedRow};
@@ -44,26 +43,31 @@ fn opened_row(
     tape: &[u8],
     out: &mut [u8],
 )
-    requires { ⌜ Valid shape × (length (now first) ≡ 10) × (length (now tables) ≡ 640) × (length (now inputs) ≡ 200)
-        × (length (now inverses) ≡ 200) × (length (now tape) ≡ total (tapeSizes shape)) × (length (now out) ≡ 20 * shape .wide) ⌝ }
+    requires { ⌜ Valid shape × (length (now first) ≡ shape .m1) × (length (now tables) ≡ 640) × (length (now inputs) ≡ sboxes shape)
+        × (length (now inverses) ≡ sboxes shape) × (length (now tape) ≡ total (tapeSizes shape))
+        × (length (now out) ≡ 2 * (shape .m1 * shape .wide)) ⌝ }
     ensures { λ _. ⌜ now (out .exit)
         ≡ numbers (shape .wide) (shape .m1) (workedA shape (now (first .entry)) (now (tables .entry)) last (now (tape .entry)) (now (inputs .entry)))
         ++ numbers (shape .wide) (shape .m1) (workedB shape (now (first .entry)) (now (tables .entry)) last (now (tape .entry))
         (now (inverses .entry))) ⌝ }
 {
-    let mut drawn = [0u64; 20];
-    elements::load(shape.wide, tapes::tape_part(shape, 2, tape), &mut drawn);
-    let extra: &[u64] = &drawn;
-    let half = 10 * shape.wide;
+    let m = shape.m1;
+    let n = 2 * m;
+    let mut points = [0u64; 20];
+    let mut tabled = [0u64; 10];
+    let mut valued = [0u64; 10];
+    let extra = &mut points[0..n];
+    let rows = &mut tabled[0..m];
+    let values = &mut valued[0..m];
+    elements::load(shape.wide, tapes::tape_part(shape, 2, tape), extra);
+    let half = m * shape.wide;
     let whole = out.len();
-    let mut rows = [0u64; 10];
-    let mut values = [0u64; 10];
-    opened::rows(shape, inputs, tables, &mut rows);
-    st_values::values_s(shape, first, &rows, extra, last, &mut values);
-    elements::store(shape.wide, &values, &mut out[0..half]);
-    opened::rows(shape, inverses, tables, &mut rows);
-    st_values::values_t(shape, &rows, extra, last, &mut values);
-    elements::store(shape.wide, &values, &mut out[half..whole]);
+    opened::rows(shape, inputs, tables, rows);
+    st_values::values_s(shape, first, rows, extra, last, values);
+    elements::store(shape.wide, values, &mut out[0..half]);
+    opened::rows(shape, inverses, tables, rows);
+    st_values::values_t(shape, rows, extra, last, values);
+    elements::store(shape.wide, values, &mut out[half..whole]);
 }
 
 // All of a party's shares: output, c, a, b. `key`, `inverse` and `product` are the offsets.
@@ -88,18 +92,12 @@ pub fn party_row(
         ≡ workedRow shape (committed (now (front .entry)) (now (key .entry)) (now (inverse .entry)))
         (now (product .entry)) (now (first .entry)) (now (far .entry)) given (now (tables .entry)) last i (now (tape .entry)) ⌝ }
 {
-    let mut inverses = [0u8; 200];
-    let mut inputs = [0u8; 200];
-    let output = circuit_shares::walk(
-        shape,
-        i,
-        front,
-        key,
-        inverse,
-        tape,
-        &mut inverses,
-        &mut inputs,
-    );
+    let sboxes = shape.m1 * shape.m2;
+    let mut inverted = [0u8; 200];
+    let mut given_bytes = [0u8; 200];
+    let inverses = &mut inverted[0..sboxes];
+    let inputs = &mut given_bytes[0..sboxes];
+    let output = circuit_shares::walk(shape, i, front, key, inverse, tape, inverses, inputs);
     slices::copy(&mut out[0..16], &output);
     let c = opened_c(shape, i, product, tape, far, given);
     numbers::store(out, 16, shape.wide, c);
@@ -110,8 +108,8 @@ pub fn party_row(
         first,
         tables,
         last,
-        &inputs,
-        &inverses,
+        inputs,
+        inverses,
         tape,
         &mut out[at..end],
     );

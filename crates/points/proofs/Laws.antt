@@ -18,25 +18,28 @@ use Rattle.sets.specs.Valid.{Valid}
 use Rattle.sets.specs.Laws.{powersOf}
 use Rattle.forms.specs.Point.{near, tablesAt}
 
--- ---- the field, by the bytes of an element
+-- ---- the set's field is that of w bits and the modulus m
+
+pub record Over (S : Shape) (w m : ℕ) : Type 0 where
+  pub bits : 8 * S .wide ≡ w
+  pub modulus : S .low ≡ m
+
+module _ {S : Shape} {w m : ℕ} (o : Over S w m) where
+  pub below : {x : ℕ} → x < 2 ^ (8 * S .wide) → x < 2 ^ w
+  below h = rw (o .bits) at h
+
+  -- Lagrange's values for n points
+  pub values : (n x : ℕ) {k : ℕ} {l : List ℕ} → k ≡ n → l ≡ tab (lagrangeValue w m n x) n → l ≡ tab (lagrangeValue (8 * S .wide) (S .low) k x) n
+  values n x e h = rw (o .bits, o .modulus, e) h
 
 module _ {S : Shape} (v : Valid S) where
   open Shape S using (wide, low)
 
-  pub below32 : (x : ℕ) → wide ≡ 4 → x < 2 ^ (8 * wide) → x < 2 ^ 32
-  below32 x e h = rw e at h
+  pub over32 : wide ≡ 4 → Over S 32 low32
+  over32 e = record { bits = ap (8 *_) e; modulus = v .wide32 e .0 }
 
-  pub below48 : (x : ℕ) → wide ≢ 4 → x < 2 ^ (8 * wide) → x < 2 ^ 48
-  below48 x e h = rw (v .wide48 e .0) at h
-
-  -- Lagrange's values for n points
-  pub values32 : (n x : ℕ) {m : ℕ} {l : List ℕ} → wide ≡ 4 → m ≡ n → l ≡ tab (lagrangeValue 32 low32 n x) n
-      → l ≡ tab (lagrangeValue (8 * wide) low m x) n
-  values32 n x e f h = rw (e, v .wide32 e .0, f) h
-
-  pub values48 : (n x : ℕ) {m : ℕ} {l : List ℕ} → wide ≢ 4 → m ≡ n → l ≡ tab (lagrangeValue 48 low48 n x) n
-      → l ≡ tab (lagrangeValue (8 * wide) low m x) n
-  values48 n x e f h = rw (v .wide48 e .0, v .wide48 e .1, f) h
+  pub over48 : wide ≢ 4 → Over S 48 low48
+  over48 n = record { bits = ap (8 *_) (v .wide48 n .0); modulus = v .wide48 n .1 }
 
   -- the tables of the first twenty of 21 values
   pub tables-right : (x : ℕ) {values powers out : List ℕ} → values ≡ tab (near S x) 21 → powers ≡ powersOf S

@@ -14,9 +14,12 @@ pub fn holds(shape: Shape, c: &[u8], a: &[u8], b: &[u8]) -> bool
 {
     let bits = (8 * shape.wide) as u32;
     let sum = numbers::load(c, 0, shape.wide);
-    let mut x = [0u64; 10];
-    elements::load(shape.wide, a, &mut x);
-    let mut y = [0u64; 10];
-    elements::load(shape.wide, b, &mut y);
-    sum == dots::dot(bits, shape.low, &y, &x)
+    let m = shape.m1;
+    let mut elements_a = [0u64; 10];
+    let mut elements_b = [0u64; 10];
+    let x = &mut elements_a[0..m];
+    let y = &mut elements_b[0..m];
+    elements::load(shape.wide, a, x);
+    elements::load(shape.wide, b, y);
+    sum == dots::dot(bits, shape.low, y, x)
 }

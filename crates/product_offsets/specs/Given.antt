@@ -2,13 +2,13 @@
 -- value for the extra point.
 use mathlib.Core.Path.{_≡_}
 use mathlib.Core.List.{List}
-use Prim.Native.Nat.{ℕ}
+use Prim.Native.Nat.{ℕ, _*_}
 use lib.ListN.{length}
 use Rattle.banquet.specs.declared.Shape.{Shape}
 use Rattle.sets.specs.Valid.{Valid}
 
 pub record Rows (S : Shape) (us vs lasts : List ℕ) : Type 0 where
   pub valid : Valid S
-  pub us-size : length us ≡ 210
-  pub vs-size : length vs ≡ 210
+  pub us-size : length us ≡ 21 * S .m1
+  pub vs-size : length vs ≡ 21 * S .m1
   pub lasts-size : length lasts ≡ 21

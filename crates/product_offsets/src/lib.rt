@@ -23,13 +23,17 @@ pub fn product_offsets(
     ensures { λ _. ⌜ now (out .exit)
         ≡ workedOffsets shape (now (us .entry)) (now (vs .entry)) (now (lasts .entry)) (now (sum .entry)) (now (first .entry)) ⌝ }
 {
-    let mut draws = [0u64; 10];
-    elements::load(shape.wide, first, &mut draws);
-    let mut extra = [0u64; 20];
-    elements::load(shape.wide, tapes::tape_part(shape, 2, sum), &mut extra);
+    let m = shape.m1;
+    let n = 2 * m;
+    let mut drawn = [0u64; 10];
+    let mut points = [0u64; 20];
+    let draws = &mut drawn[0..m];
+    let extra = &mut points[0..n];
+    elements::load(shape.wide, first, draws);
+    elements::load(shape.wide, tapes::tape_part(shape, 2, sum), extra);
     let mut shares = [0u64; 21];
     elements::load(shape.wide, tapes::tape_part(shape, 3, sum), &mut shares);
     let mut values = [0u64; 21];
-    offsets::products(shape, &draws, &extra, &shares, us, vs, lasts, &mut values);
+    offsets::products(shape, draws, extra, &shares, us, vs, lasts, &mut values);
     elements::store(shape.wide, &values, out);
 }

@@ -6,8 +6,6 @@ use Prim.Native.Nat.{ℕ, _+_, _<_, _≤_}
 use native.Mathlib.Omega.{arith}
 use lib.ListN.{length, take}
 use lib.Seq.{take-all}
-use mir.Syntax.{w8}
-use mir.Val.{Fits}
 use borrow.Author.Tests.{eq-eqb, ne-eqb, le-leb, lt-leb}
 use Rattle.slices.specs.Lists.{put}
 use Rattle.slices.proofs.Put.{front, front-none, front-more}
@@ -22,9 +20,6 @@ use Rattle.banquet.specs.Key.{publicKeyOf, checkInputs}
 use Rattle.banquet.specs.Calls.{publicKeyAnswer}
 
 -- ---- counts
-
-pub in-byte : {n : ℕ} → n < 200 → Fits w8 n
-in-byte h = omega (arith, h)
 
 -- the output has room for the plaintext, and for the ciphertext behind it
 pub plaintext-room : {p n : ℕ} → p ≡ 16 → 32 ≤ n → 0 + p ≤ n

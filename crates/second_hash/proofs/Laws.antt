@@ -15,7 +15,7 @@ use Rattle.stream.proofs.Stream.{absorbed-append, joined}
 use Rattle.stream.proofs.Shake.{output}
 use Rattle.banquet.specs.declared.Shape.{Shape}
 use Rattle.banquet.specs.Shape.{headSizes, frameSizes}
-use Rattle.banquet.specs.Sets.{aesScheme}
+use Rattle.banquet.specs.Sets.{schemeOf}
 use Rattle.banquet.specs.Hash.{secondHash}
 use Rattle.banquet.specs.Signature.{headPart, frameOf, framePart}
 use Rattle.frames.specs.Frames.{frame-bytes}
@@ -25,25 +25,26 @@ module _ (S : Shape) (s : List ℕ) where
 
   -- the product offsets of execution e, as a signature s has them
   abbrev pub offsetsOf : ℕ → List ℕ
-  offsetsOf e = framePart (aesScheme S) (frameOf (aesScheme S) s e) 4
+  offsetsOf e = framePart (schemeOf S) (frameOf (schemeOf S) s e) 4
 
   -- ---- the loop
 
   -- t has absorbed the offsets of e executions, and u those of one more
-  pub one-more : (e : ℕ) (start : Sponge) {sizes frame offsets : List ℕ} {t u : Sponge} → sizes ≡ frameSizes S → frame ≡ frameOf (aesScheme S) s e
-      → offsets ≡ field sizes 4 frame → t ≡ absorbed start (rows offsetsOf e) → u ≡ absorbed t offsets → u ≡ absorbed start (rows offsetsOf (e + 1))
-  one-more e start z f o p q =
-      q ∙ ap₂ absorbed p (o ∙ ap₂ (λ n l. field n 4 l) z f) ∙ sym (absorbed-append start (rows offsetsOf e) (offsetsOf e))
+  pub one-more : (e : ℕ) (start : Sponge) {frame offsets : List ℕ} {t u : Sponge} → frame ≡ frameOf (schemeOf S) s e
+      → offsets ≡ framePart (schemeOf S) frame 4 → t ≡ absorbed start (rows offsetsOf e) → u ≡ absorbed t offsets
+      → u ≡ absorbed start (rows offsetsOf (e + 1))
+  one-more e start f o p q =
+      q ∙ ap₂ absorbed p (o ∙ ap (λ l. framePart (schemeOf S) l 4) f) ∙ sym (absorbed-append start (rows offsetsOf e) (offsetsOf e))
       ∙ ap (λ (k : ℕ). absorbed start (rows offsetsOf k)) (sym (add-one e))
 
   -- ---- bytes
 
   module _ (b : Bytes s) where
-    pub h1-bytes : Bytes (headPart (aesScheme S) 1 s)
+    pub h1-bytes : Bytes (headPart (schemeOf S) 1 s)
     h1-bytes = field-bytes (headSizes S) 1 s b
 
     pub offsets-bytes : (e : ℕ) → Bytes (offsetsOf e)
-    offsets-bytes e = field-bytes (frameSizes S) 4 (frameOf (aesScheme S) s e) (frame-bytes S s e b)
+    offsets-bytes e = field-bytes (frameSizes S) 4 (frameOf (schemeOf S) s e) (frame-bytes S s e b)
 
     pub all-offsets-bytes : Bytes (rows offsetsOf executions)
     all-offsets-bytes = rows-bytes offsetsOf executions (λ e l. offsets-bytes e)
@@ -52,18 +53,18 @@ module _ (S : Shape) (s : List ℕ) where
 
   -- h2 of a signature, from its own h1 and product offsets
   abbrev pub h2Of : List ℕ
-  h2Of = secondHash (aesScheme S) (headPart (aesScheme S) 1 s) offsetsOf
+  h2Of = secondHash (schemeOf S) (headPart (schemeOf S) 1 s) offsetsOf
 
   -- where t has absorbed the byte 2, what the code writes `&s[32..64]`, and the offsets
   pub second-hashed : {start t : Sponge} {h : List ℕ} → Bytes s → start ≡ absorbed empty (2 ∷ take (64 - 32) (drop 32 s))
       → t ≡ absorbed start (rows offsetsOf executions) → h ≡ squeezed (finished t) 32 → h ≡ h2Of
   unfolding secondHash field
   second-hashed b p q r =
-      let h1 = headPart (aesScheme S) 1 s in
+      let h1 = headPart (schemeOf S) 1 s in
       let all = rows offsetsOf executions in
       r ∙ output (2 ∷ (h1 ++ all)) 32 (cons-bytes (lit< tt) (append-bytes (h1-bytes b) (all-offsets-bytes b))) (joined (2 ∷ h1) all p q) refl
 
 -- for any h1 and offsets
-pub sized-second : (S : Shape) (h1 : List ℕ) (offsets : ℕ → List ℕ) → Sized 32 (secondHash (aesScheme S) h1 offsets)
+pub sized-second : (S : Shape) (h1 : List ℕ) (offsets : ℕ → List ℕ) → Sized 32 (secondHash (schemeOf S) h1 offsets)
 unfolding secondHash
 sized-second S h1 offsets = sized-shake (2 ∷ (h1 ++ rows offsets (S .executions))) 32

@@ -6,7 +6,7 @@ ghost use lib.ListN.{length};
 ghost use Rattle.slices.specs.Lists.{rows};
 ghost use Rattle.stream.specs.Stream.{absorbed};
 ghost use Rattle.banquet.specs.Shape.{signatureLength};
-ghost use Rattle.banquet.specs.Sets.{aesScheme};
+ghost use Rattle.banquet.specs.Sets.{schemeOf};
 ghost use Rattle.banquet.specs.Hash.{secondHash};
 ghost use Rattle.banquet.specs.Signature.{headPart, frameOf, framePart};
 ghost use Rattle.sets.specs.Valid.{Valid};
@@ -15,14 +15,13 @@ ghost use Rattle.sets.specs.Valid.{Valid};
 fn absorb_products(shape: Shape, s: &[u8], start: Sponge) -> Sponge
     requires { ⌜ Valid shape × (length (now s) ≡ signatureLength shape) ⌝ }
     ensures { λ r. ⌜ r
-        ≡ absorbed start (rows (λ e. framePart (aesScheme shape) (frameOf (aesScheme shape) (now (s .entry)) e) 4) (shape .executions)) ⌝ }
+        ≡ absorbed start (rows (λ e. framePart (schemeOf shape) (frameOf (schemeOf shape) (now (s .entry)) e) 4) (shape .executions)) ⌝ }
 {
-    let sizes = frames::frame_sizes(shape);
     let n = shape.executions;
     let mut t = start;
     for e in 0..n {
         let frame = frames::frame(shape, s, e);
-        let u = absorb::absorb(t, fields::field(&sizes, 4, frame));
+        let u = absorb::absorb(t, frames::part(shape, 4, frame));
         t = u;
     }
     t
@@ -32,8 +31,8 @@ fn absorb_products(shape: Shape, s: &[u8], start: Sponge) -> Sponge
 pub fn second_hash(shape: Shape, s: &[u8]) -> [u8; 32]
     requires { ⌜ Valid shape × (length (now s) ≡ signatureLength shape) ⌝ }
     ensures { λ r. ⌜ r
-        ≡ secondHash (aesScheme shape) (headPart (aesScheme shape) 1 (now (s .entry)))
-        (λ e. framePart (aesScheme shape) (frameOf (aesScheme shape) (now (s .entry)) e) 4) ⌝ }
+        ≡ secondHash (schemeOf shape) (headPart (schemeOf shape) 1 (now (s .entry)))
+        (λ e. framePart (schemeOf shape) (frameOf (schemeOf shape) (now (s .entry)) e) 4) ⌝ }
 {
     let start = hash_inputs::tagged(2, &s[32..64]);
     let t = absorb_products(shape, s, start);

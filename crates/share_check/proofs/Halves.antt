@@ -1,16 +1,13 @@
 -- Two halves of one slice, written one after the other and read back. Assumes nothing.
 use mathlib.Core.Path.{_≡_, _∙_}
 use mathlib.Core.List.{List, _++_}
-use Prim.Native.Nat.{ℕ, _*_, _/_, _-_, _≤_}
+use Prim.Native.Nat.{ℕ, _*_, _/_, _-_}
 use native.Mathlib.Nat.{sub-zero}
 use native.Mathlib.Omega.{arith}
 use lib.ListN.{length, take, drop, length-append, length-take, length-drop}
 use lib.Seq.{take-all, take-at, drop-at}
 use borrow.Rule.Slice.PartMut.{putMid}
 use Rattle.slices.proofs.Put.{put-pair, front-long}
-
-pub half-le : (n : ℕ) → n / 2 ≤ n
-half-le n = omega arith
 
 module _ (w : List ℕ) (n : ℕ) (long : length w ≡ 2 * n) where
   -- lent and written one after the other

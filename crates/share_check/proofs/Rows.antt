@@ -18,7 +18,7 @@ use Rattle.banquet.specs.declared.Answer.{Answer}
 use Rattle.banquet.specs.declared.Answer.the-variants.{ShareDiffers, ProductDiffers, Accepted}
 use Rattle.banquet.specs.Shape.{transcriptSizes}
 use Rattle.banquet.specs.Answer.{require}
-use Rattle.banquet.specs.Sets.{aesScheme}
+use Rattle.banquet.specs.Sets.{schemeOf}
 use Rattle.banquet.specs.Hash.{tape}
 use Rattle.banquet.specs.Execution.{challenge, outputShare}
 use Rattle.banquet.specs.Opening.{transcriptPart, committedOf, sharesHold, outputsHold, productHolds, executionOf, tapeUnder, checkShares}
@@ -39,14 +39,14 @@ module _ {S : Shape} {publicKey t : List ℕ} {e second : ℕ} (g : Given S publ
   pub second-fits : second < 2 ^ (8 * wide)
   second-fits =
       let z = sized-field (transcriptSizes S) 8 (g .stated) in
-      rw (g .second-is) (number-lt (transcriptPart (aesScheme S) t 8) wide (z .bytes) (omega (arith, z .size)))
+      rw (g .second-is) (number-lt (transcriptPart (schemeOf S) t 8) wide (z .bytes) (omega (arith, z .size)))
 
   -- the public key's halves
   pub key-size : length publicKey ≡ 32
   key-size = omega (arith, g .key .size, g .valid .plaintext)
 
-  pub front-size : length (take 16 publicKey) ≡ 16
-  front-size = rw length-take (omega (arith, key-size))
+  pub front-size : length (take 16 publicKey) ≡ S .front
+  front-size = rw length-take (omega (arith, key-size, g .valid .plaintext))
 
   pub ciphertext-is : take 16 (drop 16 publicKey) ≡ drop (S .front) publicKey
   ciphertext-is =
@@ -57,16 +57,16 @@ module _ {S : Shape} {publicKey t : List ℕ} {e second : ℕ} (g : Given S publ
   pub made-right : {sizes salt front key inverse first product out : List ℕ} (seeds : List ℕ) → sizes ≡ transcriptSizes S
       → salt ≡ field sizes 0 t → front ≡ take 16 publicKey → key ≡ field sizes 4 t → inverse ≡ field sizes 5 t → first ≡ field sizes 6 t
       → product ≡ field sizes 7 t
-      → out ≡ rows (λ i. shareRow (aesScheme S) (committed front key inverse) (challenge (aesScheme S) first product second) i
-      (tape (aesScheme S) salt e i (row 16 i seeds))) parties
+      → out ≡ rows (λ i. shareRow (schemeOf S) (committed front key inverse) (challenge (schemeOf S) first product second) i
+      (tape (schemeOf S) salt e i (row 16 i seeds))) parties
       → out ≡ rows (madeRow S publicKey t seeds) parties
   unfolding madeRow
   made-right seeds z h0 hf h4 h5 h6 h7 is =
       is ∙ rw (h0, hf, h4, h5, h6, h7, z, g .e-is, g .second-is, g .valid .plaintext) refl
 
-  fits : Fits (aesScheme S) (laws (g .valid)) (committedOf (aesScheme S) publicKey t)
+  fits : Fits (schemeOf S) (laws (g .valid)) (committedOf (schemeOf S) publicKey t)
   fits = record {
-    fits-front = sized-front (aesScheme S) (laws (g .valid)) (g .key);
+    fits-front = sized-front (schemeOf S) (laws (g .valid)) (g .key);
     fits-key = sized-field (transcriptSizes S) 4 (g .stated);
     fits-inverses = sized-field (transcriptSizes S) 5 (g .stated);
   }
@@ -78,10 +78,10 @@ module _ {S : Shape} {publicKey t : List ℕ} {e second : ℕ} (g : Given S publ
     made-size : (i : ℕ) → length (made i) ≡ total (rowSizes S)
     unfolding madeRow shareRow
     made-size i =
-        let u = tapeUnder (aesScheme S) t i (row 16 i seeds) in
-        let output : length (outputShare (aesScheme S) (committedOf (aesScheme S) publicKey t) i u) ≡ 16 =
-        sized-outputShare (aesScheme S) (laws (g .valid)) (committedOf (aesScheme S) publicKey t) fits i
-        (hashed-tape (aesScheme S) (laws (g .valid)) _ _ i (row 16 i seeds)) .size in
+        let u = tapeUnder (schemeOf S) t i (row 16 i seeds) in
+        let output : length (outputShare (schemeOf S) (committedOf (schemeOf S) publicKey t) i u) ≡ 16 =
+        sized-outputShare (schemeOf S) (laws (g .valid)) (committedOf (schemeOf S) publicKey t) fits i
+        (hashed-tape (schemeOf S) (laws (g .valid)) _ _ i (row 16 i seeds)) .size in
         simp (length-append, length-bytesOf, length-numbers) (omega (arith, output))
 
     stated-row : (i : ℕ) → i < parties → row (total (rowSizes S)) i (rows (statedRow S t) parties) ≡ statedRow S t i
@@ -100,14 +100,14 @@ module _ {S : Shape} {publicKey t : List ℕ} {e second : ℕ} (g : Given S publ
 
     row-tested : (i : ℕ) → i < parties
         → same (row (total (rowSizes S)) i (rows made parties)) (row (total (rowSizes S)) i (rows (statedRow S t) parties))
-        ≡ sharesHold (aesScheme S) publicKey t i (row 16 i seeds)
+        ≡ sharesHold (schemeOf S) publicKey t i (row 16 i seeds)
     unfolding madeRow
     row-tested i l = ap₂ same (made-row i l) (stated-row i l) ∙ row-same (g .valid) (g .stated) (g .key) i l (row 16 i seeds)
 
     sums-checked : sumsAnswer S (take 16 (drop 16 publicKey)) e
         (sumXor parties (λ i. row (total (rowSizes S)) i (rows (statedRow S t) parties)))
-        ≡ require (outputsHold (aesScheme S) publicKey t) (ShareDiffers parties)
-        (require (productHolds (aesScheme S) publicKey t) (ProductDiffers (executionOf (aesScheme S) t)) Accepted)
+        ≡ require (outputsHold (schemeOf S) publicKey t) (ShareDiffers parties)
+        (require (productHolds (schemeOf S) publicKey t) (ProductDiffers (executionOf (schemeOf S) t)) Accepted)
     unfolding sumsAnswer
     sums-checked =
         rw (
@@ -120,7 +120,7 @@ module _ {S : Shape} {publicKey t : List ℕ} {e second : ℕ} (g : Given S publ
 
     rows-checked : (hidden : ℕ)
         → rowsAnswer S (take 16 (drop 16 publicKey)) e hidden (rows made parties) (rows (statedRow S t) parties)
-        ≡ checkShares (aesScheme S) publicKey t hidden (λ i. row 16 i seeds)
+        ≡ checkShares (schemeOf S) publicKey t hidden (λ i. row 16 i seeds)
     unfolding rowsAnswer checkShares
     rows-checked hidden = each-cong ShareDiffers parties (λ i l. ap (eqb i hidden ||_) (row-tested i l)) sums-checked
 
@@ -137,7 +137,7 @@ module _ {S : Shape} {publicKey t : List ℕ} {e second : ℕ} (g : Given S publ
       pub halves-checked : (hidden : ℕ) {r : Answer}
           → r ≡ rowsAnswer S (take 16 (drop 16 publicKey)) e hidden (take (length w - length w / 2) (drop (length w / 2) w))
           (take (length w / 2 - 0) w)
-          → r ≡ checkShares (aesScheme S) publicKey t hidden (λ i. row 16 i seeds)
+          → r ≡ checkShares (schemeOf S) publicKey t hidden (λ i. row 16 i seeds)
       halves-checked hidden h =
           h ∙ ap₂ (rowsAnswer S (take 16 (drop 16 publicKey)) e hidden) (read .0) (read .1) ∙ rows-checked hidden
 

@@ -11,7 +11,7 @@ use Rattle.banquet.specs.declared.Shape.{Shape}
 use Rattle.banquet.specs.declared.Answer.{Answer}
 use Rattle.banquet.specs.declared.Answer.the-variants.{ShareDiffers}
 use Rattle.banquet.specs.Shape.{publicKeyLength, transcriptSizes}
-use Rattle.banquet.specs.Sets.{aesScheme}
+use Rattle.banquet.specs.Sets.{schemeOf}
 use Rattle.banquet.specs.Answer.{each}
 use Rattle.banquet.specs.Opening.{executionOf, secondOf, committedOf, challengeOf, tapeUnder}
 use Rattle.sets.specs.Valid.{Valid}
@@ -24,14 +24,14 @@ pub record Given (S : Shape) (publicKey transcript : List ℕ) (e second : ℕ) 
   pub valid : Valid S
   pub key : Sized (publicKeyLength S) publicKey
   pub stated : Sized (total (transcriptSizes S)) transcript
-  pub e-is : e ≡ executionOf (aesScheme S) transcript
-  pub second-is : second ≡ secondOf (aesScheme S) transcript
+  pub e-is : e ≡ executionOf (schemeOf S) transcript
+  pub second-is : second ≡ secondOf (schemeOf S) transcript
 
 -- party i's row, worked out from its seed
 unfoldable pub madeRow : Shape → List ℕ → List ℕ → List ℕ → ℕ → List ℕ
 madeRow S publicKey transcript seeds i =
-    shareRow (aesScheme S) (committedOf (aesScheme S) publicKey transcript) (challengeOf (aesScheme S) transcript) i
-    (tapeUnder (aesScheme S) transcript i (row 16 i seeds))
+    shareRow (schemeOf S) (committedOf (schemeOf S) publicKey transcript) (challengeOf (schemeOf S) transcript) i
+    (tapeUnder (schemeOf S) transcript i (row 16 i seeds))
 
 -- numbers 14 and 15, for all rows worked out and all stated
 unfoldable pub rowsAnswer : Shape → List ℕ → ℕ → ℕ → List ℕ → List ℕ → Answer

@@ -7,7 +7,7 @@ ghost use Prim.Native.Nat.{_*_, _≤_};
 ghost use lib.ListN.{length};
 ghost use Rattle.slices.specs.Lists.{rows as rowsOf, row};
 ghost use Rattle.slices.specs.Layout.{total};
-ghost use Rattle.banquet.specs.Sets.{aesScheme};
+ghost use Rattle.banquet.specs.Sets.{schemeOf};
 ghost use Rattle.banquet.specs.Opening.{checkShares};
 ghost use Rattle.sets.specs.Valid.{Valid};
 ghost use Rattle.sets.specs.Bounds.{rowSizes};
@@ -85,7 +85,7 @@ pub fn check_rows(
 ) -> Answer
     requires { ⌜ Given shape (now public) (now transcript) e second × (shape .parties * 16 ≤ length (now seeds))
         × (length (now rows) ≡ 2 * (shape .parties * total (rowSizes shape))) ⌝ }
-    ensures { λ r. ⌜ r ≡ checkShares (aesScheme shape) (now (public .entry)) (now (transcript .entry)) hidden (λ i. row 16 i (now (seeds .entry))) ⌝ }
+    ensures { λ r. ⌜ r ≡ checkShares (schemeOf shape) (now (public .entry)) (now (transcript .entry)) hidden (λ i. row 16 i (now (seeds .entry))) ⌝ }
     ensures { λ _. ⌜ now (rows .exit)
         ≡ rowsOf (statedRow shape (now (transcript .entry))) (shape .parties)
         ++ rowsOf (madeRow shape (now (public .entry)) (now (transcript .entry)) (now (seeds .entry))) (shape .parties) ⌝ }

@@ -18,7 +18,7 @@ use Rattle.banquet.specs.declared.Answer.the-variants.{
   WorkLength,
 }
 use Rattle.banquet.specs.Shape.{messageLimit, workLength, publicKeyLength, rootSeedsLength, signatureLength}
-use Rattle.banquet.specs.Sets.{aesScheme}
+use Rattle.banquet.specs.Sets.{schemeOf}
 use Rattle.banquet.specs.Answer.{require, cleared, workAfter, outputAfter}
 use Rattle.banquet.specs.Key.{checkKey}
 use Rattle.banquet.specs.Signature.{signature}
@@ -38,10 +38,10 @@ pub record Lengths (S : Shape) (key publicKey message salt seeds : List ℕ) : T
 
 module _ {S : Shape} (v : Valid S) (key publicKey message salt seeds output work : List ℕ) where
   abbrev answer : Answer
-  answer = signAnswer (aesScheme S) key publicKey message salt seeds output work
+  answer = signAnswer (schemeOf S) key publicKey message salt seeds output work
 
   abbrev made : List ℕ
-  made = signature (aesScheme S) key publicKey message salt seeds
+  made = signature (schemeOf S) key publicKey message salt seeds
 
   -- what an answer leaves
   abbrev output-left : Answer → List ℕ
@@ -99,7 +99,7 @@ module _ {S : Shape} (v : Valid S) (key publicKey message salt seeds output work
   -- ---- by the key, where every length is right
 
   module _ (l : Lengths S key publicKey message salt seeds) (o : signatureLength S ≤ length output) (w : workLength ≤ length work) {a : Answer}
-      (tested : a ≡ checkKey (aesScheme S) publicKey key Accepted) where
+      (tested : a ≡ checkKey (schemeOf S) publicKey key Accepted) where
     lengths-right : answer ≡ a
     unfolding signAnswer require
     lengths-right =
@@ -115,7 +115,7 @@ module _ {S : Shape} (v : Valid S) (key publicKey message salt seeds output work
         (sym tested)
 
     pub refused : Refusal a → Called a output work
-    refused h = let kept = refusal-untouched (aesScheme S) publicKey key tested h in called lengths-right (kept .output-kept) (kept .work-kept)
+    refused h = let kept = refusal-untouched (schemeOf S) publicKey key tested h in called lengths-right (kept .output-kept) (kept .work-kept)
 
     pub accepted : a ≡ Accepted → {o′ w′ : List ℕ} → o′ ≡ outputAfter Accepted made output → w′ ≡ cleared work → Called Accepted o′ w′
     unfolding workAfter

@@ -5,7 +5,7 @@ ghost use mathlib.Core.Path.{_≡_};
 ghost use Prim.Native.Nat.{_≤_};
 ghost use lib.ListN.{length};
 ghost use Rattle.banquet.specs.Shape.{signatureLength};
-ghost use Rattle.banquet.specs.Sets.{aesScheme};
+ghost use Rattle.banquet.specs.Sets.{schemeOf};
 ghost use Rattle.banquet.specs.Calls.{sign};
 ghost use Rattle.sets.specs.Valid.{Valid};
 ghost use Rattle.sign_message.specs.Answers.{Lengths};
@@ -24,23 +24,25 @@ fn sign_key(
     requires { ⌜ Lengths shape (now key) (now public) (now message) (now salt) (now seeds)
         × (signatureLength shape ≤ length (now out)) × (65536 ≤ length (now work)) ⌝ }
     ensures { λ r. ⌜ r
-        ≡ sign (aesScheme shape) (now (key .entry)) (now (public .entry)) (now (message .entry)) (now (salt .entry)) (now (seeds .entry))
+        ≡ sign (schemeOf shape) (now (key .entry)) (now (public .entry)) (now (message .entry)) (now (salt .entry)) (now (seeds .entry))
         (now (out .entry)) (now (work .entry)) .answer ⌝ }
     ensures { λ _. ⌜ now (out .exit)
-        ≡ sign (aesScheme shape) (now (key .entry)) (now (public .entry)) (now (message .entry)) (now (salt .entry)) (now (seeds .entry))
+        ≡ sign (schemeOf shape) (now (key .entry)) (now (public .entry)) (now (message .entry)) (now (salt .entry)) (now (seeds .entry))
         (now (out .entry)) (now (work .entry)) .output ⌝ }
     ensures { λ _. ⌜ now (work .exit)
-        ≡ sign (aesScheme shape) (now (key .entry)) (now (public .entry)) (now (message .entry)) (now (salt .entry)) (now (seeds .entry))
+        ≡ sign (schemeOf shape) (now (key .entry)) (now (public .entry)) (now (message .entry)) (now (salt .entry)) (now (seeds .entry))
         (now (out .entry)) (now (work .entry)) .work ⌝ }
 {
-    let mut inputs = [0u8; 200];
-    let answer = check_key::check_key(shape, key, public, &mut inputs);
+    let n = shape.m1 * shape.m2;
+    let mut given = [0u8; 200];
+    let mut inverted = [0u8; 200];
+    let inputs = &mut given[0..n];
+    let inverses = &mut inverted[0..n];
+    let answer = check_key::check_key(shape, key, public, inputs, inverses);
     match answer {
         Answer::Accepted => {}
         _ => return answer,
     }
-    let mut inverses = inputs;
-    sbox_inputs::invert(&mut inverses);
     let size = frames::signature_length(shape);
     make_signature::make(
         shape,
@@ -49,8 +51,8 @@ fn sign_key(
         message,
         salt,
         seeds,
-        &inputs,
-        &inverses,
+        inputs,
+        inverses,
         &mut out[0..size],
         work,
     );
@@ -71,13 +73,13 @@ pub fn sign_message(
 ) -> Answer
     requires { ⌜ Valid shape ⌝ }
     ensures { λ r. ⌜ r
-        ≡ sign (aesScheme shape) (now (key .entry)) (now (public .entry)) (now (message .entry)) (now (salt .entry)) (now (seeds .entry))
+        ≡ sign (schemeOf shape) (now (key .entry)) (now (public .entry)) (now (message .entry)) (now (salt .entry)) (now (seeds .entry))
         (now (out .entry)) (now (work .entry)) .answer ⌝ }
     ensures { λ _. ⌜ now (out .exit)
-        ≡ sign (aesScheme shape) (now (key .entry)) (now (public .entry)) (now (message .entry)) (now (salt .entry)) (now (seeds .entry))
+        ≡ sign (schemeOf shape) (now (key .entry)) (now (public .entry)) (now (message .entry)) (now (salt .entry)) (now (seeds .entry))
         (now (out .entry)) (now (work .entry)) .output ⌝ }
     ensures { λ _. ⌜ now (work .exit)
-        ≡ sign (aesScheme shape) (now (key .entry)) (now (public .entry)) (now (message .entry)) (now (salt .entry)) (now (seeds .entry))
+        ≡ sign (schemeOf shape) (now (key .entry)) (now (public .entry)) (now (message .entry)) (now (salt .entry)) (now (seeds .entry))
         (now (out .entry)) (now (work .entry)) .work ⌝ }
 {
     if key.len() != 16 {

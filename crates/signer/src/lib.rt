@@ -5,8 +5,8 @@ ghost use Prim.Native.Nat.{_*_, _≤_};
 ghost use lib.ListN.{length};
 ghost use Rattle.slices.specs.Lists.{zipXor, sumXor, row};
 ghost use Rattle.slices.specs.Layout.{total};
-ghost use Rattle.banquet.specs.Shape.{tapeSizes, firstChallengeLength, productPoints};
-ghost use Rattle.banquet.specs.Sets.{aesScheme};
+ghost use Rattle.banquet.specs.Shape.{sboxes, tapeSizes, firstChallengeLength, productPoints};
+ghost use Rattle.banquet.specs.Sets.{schemeOf};
 ghost use Rattle.banquet.specs.Hash.{tape};
 ghost use Rattle.banquet.specs.Execution.{tapePart};
 ghost use Rattle.sets.specs.Valid.{Valid};
@@ -31,10 +31,10 @@ fn byte_offsets(
     offset: &mut [u8],
     inverse: &mut [u8],
 )
-    requires { ⌜ Valid shape × (length (now key) ≡ 16) × (length (now inverses) ≡ 200) × (length (now sum) ≡ total (tapeSizes shape))
-        × (length (now offset) ≡ 16) × (length (now inverse) ≡ 200) ⌝ }
-    ensures { λ _. ⌜ now (offset .exit) ≡ zipXor (now (key .entry)) (tapePart (aesScheme shape) 0 (now (sum .entry))) ⌝ }
-    ensures { λ _. ⌜ now (inverse .exit) ≡ zipXor (now (inverses .entry)) (tapePart (aesScheme shape) 1 (now (sum .entry))) ⌝ }
+    requires { ⌜ Valid shape × (length (now key) ≡ 16) × (length (now inverses) ≡ sboxes shape) × (length (now sum) ≡ total (tapeSizes shape))
+        × (length (now offset) ≡ 16) × (length (now inverse) ≡ sboxes shape) ⌝ }
+    ensures { λ _. ⌜ now (offset .exit) ≡ zipXor (now (key .entry)) (tapePart (schemeOf shape) 0 (now (sum .entry))) ⌝ }
+    ensures { λ _. ⌜ now (inverse .exit) ≡ zipXor (now (inverses .entry)) (tapePart (schemeOf shape) 1 (now (sum .entry))) ⌝ }
 {
     offset_of(key, tapes::tape_part(shape, 0, sum), offset);
     offset_of(inverses, tapes::tape_part(shape, 1, sum), inverse);
@@ -57,21 +57,20 @@ pub fn offsets(
     product: &mut [u8],
 )
     requires { ⌜ Rows shape (now us) (now vs) (now lasts) × (length (now salt) ≡ 32) × (shape .parties * 16 ≤ length (now seeds))
-        × (length (now key) ≡ 16) × (length (now inverses) ≡ 200) × (length (now first) ≡ firstChallengeLength shape)
-        × (length (now offset) ≡ 16) × (length (now inverse) ≡ 200)
+        × (length (now key) ≡ 16) × (length (now inverses) ≡ sboxes shape) × (length (now first) ≡ firstChallengeLength shape)
+        × (length (now offset) ≡ 16) × (length (now inverse) ≡ sboxes shape)
         × (length (now product) ≡ productPoints shape * shape .wide) ⌝ }
     ensures { λ _. ⌜ now (offset .exit)
-        ≡ zipXor (now (key .entry)) (tapePart (aesScheme shape) 0 (sumXor (shape .parties)
-        (λ i. tape (aesScheme shape) (now (salt .entry)) e i (row 16 i (now (seeds .entry)))))) ⌝ }
+        ≡ zipXor (now (key .entry)) (tapePart (schemeOf shape) 0 (sumXor (shape .parties)
+        (λ i. tape (schemeOf shape) (now (salt .entry)) e i (row 16 i (now (seeds .entry)))))) ⌝ }
     ensures { λ _. ⌜ now (inverse .exit)
-        ≡ zipXor (now (inverses .entry)) (tapePart (aesScheme shape) 1 (sumXor (shape .parties)
-        (λ i. tape (aesScheme shape) (now (salt .entry)) e i (row 16 i (now (seeds .entry)))))) ⌝ }
+        ≡ zipXor (now (inverses .entry)) (tapePart (schemeOf shape) 1 (sumXor (shape .parties)
+        (λ i. tape (schemeOf shape) (now (salt .entry)) e i (row 16 i (now (seeds .entry)))))) ⌝ }
     ensures { λ _. ⌜ now (product .exit)
         ≡ workedOffsets shape (now (us .entry)) (now (vs .entry)) (now (lasts .entry)) (sumXor (shape .parties)
-        (λ i. tape (aesScheme shape) (now (salt .entry)) e i (row 16 i (now (seeds .entry))))) (now (first .entry)) ⌝ }
+        (λ i. tape (schemeOf shape) (now (salt .entry)) e i (row 16 i (now (seeds .entry))))) (now (first .entry)) ⌝ }
 {
-    let sizes = sets::tape_sizes(shape);
-    let size = fields::offset(&sizes, 4);
+    let size = sets::tape_length(shape);
     let mut room = [0u8; 462];
     let added = &mut room[0..size];
     hash_sums::hash_sum(4, salt, e, shape.parties, seeds, added);

@@ -9,7 +9,7 @@ use Rattle.slices.specs.Layout.{total}
 use Rattle.shake.specs.Shake128.{shake128}
 use Rattle.banquet.specs.declared.Shape.{Shape}
 use Rattle.banquet.specs.Shape.{tapeSizes, frameSizes}
-use Rattle.banquet.specs.Sets.{aesScheme}
+use Rattle.banquet.specs.Sets.{schemeOf}
 use Rattle.banquet.specs.Hash.{commitment, firstChallenge, secondChallenge}
 use Rattle.banquet.specs.Tree.{siblingSeeds}
 use Rattle.banquet.specs.Execution.{Committed, Challenge, challenge}
@@ -30,13 +30,13 @@ use Rattle.banquet.specs.Signature.{
   signerFrame,
 }
 use Rattle.sets.specs.Valid.{Valid}
+use Rattle.forms.specs.Point.{pointRows, pointLasts}
 use Rattle.forms.specs.Party.{committed, shareRow}
 use Rattle.forms.specs.Offsets.{workedOffsets}
 use Rattle.signing.specs.Steps.{
+  witnessLength,
   offsetsAt,
   ownRow,
-  pointRows,
-  pointLasts,
   offsetFrame,
   frameShares,
   openedFrame,
@@ -60,95 +60,95 @@ module _ {S : Shape} {key publicKey inputs inverses witness : List ℕ} (w : Wit
   own = ownRow S witness salt root e
 
   own-size : length own ≡ total (tapeSizes S)
-  own-size = own-long v witness salt root e (witness-long w)
+  own-size = own-long v witness salt root e (witness-long v w)
 
   abbrev x : Committed
-  x = signerCommitted (aesScheme S) key publicKey message salt roots e
+  x = signerCommitted (schemeOf S) key publicKey message salt roots e
 
   -- ---- under the first challenge
 
   abbrev first : List ℕ
-  first = firstChallenge (aesScheme S) (signerH1 (aesScheme S) key publicKey message salt roots) e
+  first = firstChallenge (schemeOf S) (signerH1 (schemeOf S) key publicKey message salt roots) e
 
   abbrev offsets : List ℕ
-  offsets = signerOffsets (aesScheme S) key publicKey message salt roots e
+  offsets = signerOffsets (schemeOf S) key publicKey message salt roots e
 
   offsets-size : length offsets ≡ 21 * wide
-  offsets-size = offsets-long w v message salt roots e
+  offsets-size = offsets-long v w message salt roots e
 
   abbrev held : List ℕ
   held = offsetFrame S (pointRows S inputs) (pointRows S inverses) (pointLasts S) first (put d (offsetsAt S) own)
 
-  held-is : held ≡ put (put d (offsetsAt S) own) (offsetsAt S + 216) offsets
+  held-is : held ≡ put (put d (offsetsAt S) own) (offsetsAt S + witnessLength S) offsets
   unfolding offsetFrame
   held-is =
-      ap (put (put d (offsetsAt S) own) (offsetsAt S + 216))
+      ap (put (put d (offsetsAt S) own) (offsetsAt S + witnessLength S))
       (ap (λ s. workedOffsets S (pointRows S inputs) (pointRows S inverses) (pointLasts S) s first)
       (begun-row v d own offsets long own-size offsets-size)
-      ∙ offsets-are w v message salt roots e)
+      ∙ offsets-are v w message salt roots e)
 
-  pub second-part : part (offsetsAt S + 216) (21 * wide) held ≡ offsets
-  second-part = ap (part (offsetsAt S + 216) (21 * wide)) held-is ∙ held-products v d own offsets long own-size offsets-size
+  pub second-part : part (offsetsAt S + witnessLength S) (21 * wide) held ≡ offsets
+  second-part = ap (part (offsetsAt S + witnessLength S) (21 * wide)) held-is ∙ held-products v d own offsets long own-size offsets-size
 
   -- ---- under the second challenge
 
   abbrev second : ℕ
-  second = secondChallenge (aesScheme S) (signerH2 (aesScheme S) key publicKey message salt roots) e
+  second = secondChallenge (schemeOf S) (signerH2 (schemeOf S) key publicKey message salt roots) e
 
   abbrev c : Challenge
-  c = signerChallenge (aesScheme S) key publicKey message salt roots e
+  c = signerChallenge (schemeOf S) key publicKey message salt roots e
 
   abbrev tapes : ℕ → List ℕ
-  tapes = tapeOf (aesScheme S) salt root e
+  tapes = tapeOf (schemeOf S) salt root e
 
-  shares : frameShares S (take 16 publicKey) salt root e first second held ≡ (λ i. shareRow (aesScheme S) x c i (tapes i))
+  shares : frameShares S (take 16 publicKey) salt root e first second held ≡ (λ i. shareRow (schemeOf S) x c i (tapes i))
   unfolding frameShares
   shares =
       ap (frameShares S (take 16 publicKey) salt root e first second) held-is
       ∙ (λ j i.
-      shareRow (aesScheme S)
-      (committed (front-is w v message salt roots e j)
-      ((field-key v d own offsets long own-size offsets-size ∙ key-is w v message salt roots e) j)
-      ((field-inverses v d own offsets long own-size offsets-size ∙ inverses-are w v message salt roots e) j))
-      (challenge (aesScheme S) first (field-products v d own offsets long own-size offsets-size j) second) i (tapes i))
+      shareRow (schemeOf S)
+      (committed (front-is v w message salt roots e j)
+      ((field-key v d own offsets long own-size offsets-size ∙ key-is v w message salt roots e) j)
+      ((field-inverses v d own offsets long own-size offsets-size ∙ inverses-are v w message salt roots e) j))
+      (challenge (schemeOf S) first (field-products v d own offsets long own-size offsets-size j) second) i (tapes i))
 
   abbrev sums : List ℕ
   sums = drop 16 (sumXor parties (frameShares S (take 16 publicKey) salt root e first second held))
 
   abbrev C : ℕ
-  C = signerC (aesScheme S) key publicKey message salt roots e
+  C = signerC (schemeOf S) key publicKey message salt roots e
 
   abbrev A : ℕ → ℕ
-  A = signerA (aesScheme S) key publicKey message salt roots e
+  A = signerA (schemeOf S) key publicKey message salt roots e
 
   abbrev B : ℕ → ℕ
-  B = signerB (aesScheme S) key publicKey message salt roots e
+  B = signerB (schemeOf S) key publicKey message salt roots e
 
-  sums-are : sums ≡ openedBytes (aesScheme S) C A B
+  sums-are : sums ≡ openedBytes (schemeOf S) C A B
   sums-are = ap (λ f. drop 16 (sumXor parties f)) shares ∙ opened-sums S x c tapes (v .some)
 
-  pub third-part : openedPart S (take 16 publicKey) salt root e first second held ≡ signerH3Part (aesScheme S) key publicKey message salt roots e
+  pub third-part : openedPart S (take 16 publicKey) salt root e first second held ≡ signerH3Part (schemeOf S) key publicKey message salt roots e
   unfolding openedPart signerH3Part h3Part
   third-part = ap₂ _++_ sums-are (ap (λ f. rows (λ i. drop 16 (f i)) parties) shares ∙ opened-rows S x c tapes)
 
   abbrev opened : List ℕ
   opened = openedFrame S (take 16 publicKey) salt root e first second held
 
-  tail : drop (offsetsAt S) opened ≡ (x .keyOffset ++ x .inverseOffsets) ++ (offsets ++ openedBytes (aesScheme S) C A B)
+  tail : drop (offsetsAt S) opened ≡ (x .keyOffset ++ x .inverseOffsets) ++ (offsets ++ openedBytes (schemeOf S) C A B)
   unfolding openedFrame
   tail =
-      ap (λ f. drop (offsetsAt S) (put f (offsetsAt S + 216 + 21 * wide) sums)) held-is
+      ap (λ f. drop (offsetsAt S) (put f (offsetsAt S + witnessLength S + 21 * wide) sums)) held-is
       ∙ opened-tail v d own offsets long own-size offsets-size sums (sums-long v (take 16 publicKey) salt root e first second held)
-      ∙ (λ j. (key-is w v message salt roots e j ++ inverses-are w v message salt roots e j) ++ (offsets ++ sums-are j))
+      ∙ (λ j. (key-is v w message salt roots e j ++ inverses-are v w message salt roots e j) ++ (offsets ++ sums-are j))
 
   -- ---- when the hidden party is known
 
-  pub frame-made : finishedFrame S salt root e (signerHidden (aesScheme S) key publicKey message salt roots e) opened
-      ≡ signerFrame (aesScheme S) key publicKey message salt roots e
+  pub frame-made : finishedFrame S salt root e (signerHidden (schemeOf S) key publicKey message salt roots e) opened
+      ≡ signerFrame (schemeOf S) key publicKey message salt roots e
   unfolding finishedFrame signerFrame
   frame-made =
-      let hidden = signerHidden (aesScheme S) key publicKey message salt roots e in
+      let hidden = signerHidden (schemeOf S) key publicKey message salt roots e in
       let siblings = siblingSeeds shake128 salt e depth 0 root hidden in
-      let hides = commitment (aesScheme S) salt e hidden (seedOf (aesScheme S) salt root e hidden) in
+      let hides = commitment (schemeOf S) salt e hidden (seedOf (schemeOf S) salt root e hidden) in
       ap (λ t. siblings ++ (hides ++ t)) tail
       ∙ assembled siblings hides (x .keyOffset) (x .inverseOffsets) offsets (bytesOf wide C) (numbers wide m1 A) (numbers wide m1 B)

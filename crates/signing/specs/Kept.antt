@@ -1,5 +1,5 @@
 -- Each step keeps a frame's length, the sum of the tapes lies in it, and what the hashes absorb is bytes. Assumes nothing.
-use mathlib.Core.Path.{_≡_, ap, _∙_}
+use mathlib.Core.Path.{_≡_, refl, ap, _∙_}
 use mathlib.Core.List.{List}
 use Prim.Native.Nat.{ℕ, _+_, _-_, _*_, _<_, _≤_}
 use native.Mathlib.Omega.{arith}
@@ -7,22 +7,22 @@ use lib.ListN.{length, take, drop, length-append, length-drop}
 use lib.Seq.{length-take-le}
 use Rattle.slices.specs.Lists.{row, part, put, sumXor}
 use Rattle.slices.specs.Bytes.{Bytes, append-bytes, rows-bytes, part-bytes}
-use Rattle.slices.specs.Numbers.{length-bytesOf, length-numbers, bytesOf-bytes, numbers-bytes}
+use Rattle.slices.specs.Numbers.{length-bytesOf, length-numbers}
 use Rattle.slices.specs.Layout.{total}
 use Rattle.slices.proofs.Put.{length-put, cut-long}
 use Rattle.slices.proofs.Rows.{row-fits}
 use Rattle.banquet.specs.declared.Shape.{Shape}
 use Rattle.banquet.specs.Shape.{tapeSizes, frameSizes}
-use Rattle.banquet.specs.Sets.{aesScheme}
+use Rattle.banquet.specs.Sets.{schemeOf}
 use Rattle.banquet.specs.Execution.{Committed, Challenge, challenge}
 use Rattle.banquet.specs.Signer.{tapeOf}
 use Rattle.banquet.specs.Signature.{framePart, openedBytes}
 use Rattle.sets.specs.Valid.{Valid}
-use Rattle.sets.specs.Bounds.{by-ten, tape-total}
+use Rattle.sets.specs.Bounds.{all-sboxes, tape-total}
 use Rattle.frames.specs.Frames.{frame-total}
-use Rattle.forms.specs.Party.{committed}
+use Rattle.forms.specs.Party.{committed, opened-bytes}
 use Rattle.forms.specs.Offsets.{workedOffset, workedOffsets}
-use Rattle.signing.specs.Steps.{offsetsAt, ownRow, offsetFrame, frameShares, openedFrame, openedPart}
+use Rattle.signing.specs.Steps.{offsetsAt, witnessLength, openedLength, ownRow, offsetFrame, frameShares, openedFrame, openedPart}
 use Rattle.signing.specs.Sums.{opened-rows, opened-sums}
 use Rattle.signing.specs.Own.{own-long}
 
@@ -31,12 +31,9 @@ module _ {S : Shape} (v : Valid S) where
 
   -- ---- "c (4), a (40), b (40)"
 
-  opened-long : (c : ℕ) (a b : ℕ → ℕ) → length (openedBytes (aesScheme S) c a b) ≡ 21 * wide
+  opened-long : (c : ℕ) (a b : ℕ → ℕ) → length (openedBytes (schemeOf S) c a b) ≡ openedLength S
   opened-long c a b =
-      simp length-append (omega (arith, length-bytesOf wide c, length-numbers wide m1 a, length-numbers wide m1 b, by-ten v wide))
-
-  opened-bytes : (c : ℕ) (a b : ℕ → ℕ) → Bytes (openedBytes (aesScheme S) c a b)
-  opened-bytes c a b = append-bytes (append-bytes (bytesOf-bytes wide c) (numbers-bytes wide m1 a)) (numbers-bytes wide m1 b)
+      simp length-append (omega (arith, length-bytesOf wide c, length-numbers wide m1 a, length-numbers wide m1 b))
 
   -- ---- the product offsets, and the part of h2
 
@@ -45,41 +42,41 @@ module _ {S : Shape} (v : Valid S) where
   worked-long us vs lasts row first = length-numbers wide 21 (workedOffset S us vs lasts row first)
 
   pub offset-part-bytes : (e : ℕ) {frames : List ℕ} → Bytes frames
-      → Bytes (part (offsetsAt S + 216) (21 * wide) (row (total (frameSizes S)) e frames))
+      → Bytes (part (offsetsAt S + witnessLength S) (21 * wide) (row (total (frameSizes S)) e frames))
   offset-part-bytes e {frames} b =
-      part-bytes (offsetsAt S + 216) (21 * wide) (row (total (frameSizes S)) e frames)
+      part-bytes (offsetsAt S + witnessLength S) (21 * wide) (row (total (frameSizes S)) e frames)
       (part-bytes (e * total (frameSizes S)) (total (frameSizes S)) frames b)
 
   module _ (front salt root : List ℕ) (e : ℕ) (first : List ℕ) (second : ℕ) (frame : List ℕ) where
     abbrev x : Committed
-    x = committed front (framePart (aesScheme S) frame 2) (framePart (aesScheme S) frame 3)
+    x = committed front (framePart (schemeOf S) frame 2) (framePart (schemeOf S) frame 3)
 
     abbrev d : Challenge
-    d = challenge (aesScheme S) first (framePart (aesScheme S) frame 4) second
+    d = challenge (schemeOf S) first (framePart (schemeOf S) frame 4) second
 
     -- ---- the sums, and the part of h3
 
     abbrev sums : List ℕ
     sums = drop 16 (sumXor parties (frameShares S front salt root e first second frame))
 
-    pub sums-long : length sums ≡ 21 * wide
+    pub sums-long : length sums ≡ openedLength S
     unfolding frameShares
-    sums-long = ap length (opened-sums S x d (tapeOf (aesScheme S) salt root e) (v .some)) ∙ opened-long _ _ _
+    sums-long = ap length (opened-sums S x d (tapeOf (schemeOf S) salt root e) (v .some)) ∙ opened-long _ _ _
 
     pub opened-part-bytes : Bytes (openedPart S front salt root e first second frame)
     unfolding openedPart frameShares
     opened-part-bytes =
-        rw (opened-sums S x d (tapeOf (aesScheme S) salt root e) (v .some), opened-rows S x d (tapeOf (aesScheme S) salt root e))
-        (append-bytes (opened-bytes _ _ _) (rows-bytes _ parties (λ i l. opened-bytes _ _ _)))
+        rw (opened-sums S x d (tapeOf (schemeOf S) salt root e) (v .some), opened-rows S x d (tapeOf (schemeOf S) salt root e))
+        (append-bytes (opened-bytes S _ _ _) (rows-bytes _ parties (λ i l. opened-bytes S _ _ _)))
 
     -- ---- lengths of frames
 
     pub opened-kept : length frame ≡ total (frameSizes S) → length (openedFrame S front salt root e first second frame) ≡ total (frameSizes S)
     unfolding openedFrame
-    opened-kept long = length-put frame (offsetsAt S + 216 + 21 * wide) sums (omega (arith, frame-total v, sums-long)) ∙ long
+    opened-kept long = length-put frame (offsetsAt S + witnessLength S + 21 * wide) sums (omega (arith, frame-total v, all-sboxes v, sums-long)) ∙ long
 
   module _ (frame : List ℕ) (long : length frame ≡ total (frameSizes S)) where
-    pub own-kept : (witness salt root : List ℕ) (e : ℕ) → length witness ≡ 216
+    pub own-kept : (witness salt root : List ℕ) (e : ℕ) → length witness ≡ witnessLength S
         → length (put frame (offsetsAt S) (ownRow S witness salt root e)) ≡ total (frameSizes S)
     own-kept witness salt root e h =
         length-put frame (offsetsAt S) (ownRow S witness salt root e)
@@ -89,19 +86,17 @@ module _ {S : Shape} (v : Valid S) where
     unfolding offsetFrame
     offset-kept us vs lasts first =
         let o = part (offsetsAt S) (total (tapeSizes S)) frame in
-        length-put frame (offsetsAt S + 216) (workedOffsets S us vs lasts o first)
-        (omega (arith, frame-total v, worked-long us vs lasts o first)) ∙ long
+        length-put frame (offsetsAt S + witnessLength S) (workedOffsets S us vs lasts o first)
+        (omega (arith, frame-total v, all-sboxes v, worked-long us vs lasts o first)) ∙ long
 
     -- ---- the sum of the tapes lies in the frame, from where the offsets begin
 
-    abbrev end : ℕ
-    end = offsetsAt S + 216 + 41 * wide
+    module _ {at size : ℕ} (a : at ≡ offsetsAt S) (z : size ≡ total (tapeSizes S)) where
+      pub sum-room : at + size ≤ length frame
+      sum-room = omega (arith, a, z, frame-total v, tape-total v)
 
-    pub sum-room : end ≤ length frame
-    sum-room = omega (arith, frame-total v)
-
-    pub sum-long : length (take (end - offsetsAt S) (drop (offsetsAt S) frame)) ≡ total (tapeSizes S)
-    sum-long = cut-long (offsetsAt S) end frame (omega (arith, tape-total v)) sum-room
+      pub sum-long : length (take (at + size - at) (drop at frame)) ≡ total (tapeSizes S)
+      sum-long = cut-long at (at + size) frame refl sum-room ∙ z
 
   -- ---- one of all frames
 

@@ -9,39 +9,41 @@ use Rattle.slices.specs.Layout.{total}
 use Rattle.shake.specs.Shake128.{shake128}
 use Rattle.banquet.specs.declared.Shape.{Shape}
 use Rattle.banquet.specs.Shape.{firstChallengeLength, frameSizes}
-use Rattle.banquet.specs.Sets.{aesScheme}
+use Rattle.banquet.specs.Sets.{schemeOf}
 use Rattle.banquet.specs.Hash.{secondHash, thirdHash, firstChallenge, secondChallenge, hiddenParty}
 use Rattle.banquet.specs.Signature.{signerH1, signerOffsets, signerH2, signerH3Part, signerH3, signerFrame}
 use Rattle.theorems.specs.Recomputed.{firstHash-cong, secondHash-cong, thirdHash-cong}
 use Rattle.sets.specs.Valid.{Valid}
 use Rattle.sets.specs.Laws.{laws}
-use Rattle.signing.specs.Steps.{offsetsAt, ownRow, pointRows, pointLasts, offsetFrame, openedFrame, openedPart, finishedFrame}
-use Rattle.signing.specs.Passes.{Passes}
+use Rattle.forms.specs.Point.{pointRows, pointLasts}
+use Rattle.signing.specs.Steps.{offsetsAt, witnessLength, ownRow, offsetFrame, openedFrame, openedPart, finishedFrame}
+use Rattle.signing.specs.Passes.{Answered, Passes}
 use Rattle.signing.specs.Kept.{frame-row-long, own-kept, offset-kept, opened-kept}
 use Rattle.signing.specs.Witness.{Witness, witness-long, first-part}
 use Rattle.signing.specs.Execution.{second-part, third-part, frame-made}
 
 module _ {S : Shape} (v : Valid S)
-    {key publicKey message salt roots inputs inverses witness frames h1 begun firsts held h2 h3 opened finished : List ℕ}
+    {key publicKey message salt roots inputs inverses witness frames h1 begun h3 finished : List ℕ}
     (w : Witness S key publicKey inputs inverses witness)
-    (p : Passes S publicKey message salt roots inputs inverses witness frames h1 begun firsts held h2 h3 opened finished) where
+    (p : Passes S publicKey message salt roots inputs inverses witness frames h1 begun h3 finished) where
   open Shape S using (executions, wide)
+  open Answered (p .answered) using (firsts, held, h2, opened, firsts-is, held-is, h2-is, h3-is, opened-is, finished-is)
 
   abbrev n : ℕ
   n = total (frameSizes S)
 
   abbrev H1 : List ℕ
-  H1 = signerH1 (aesScheme S) key publicKey message salt roots
+  H1 = signerH1 (schemeOf S) key publicKey message salt roots
 
   abbrev H2 : List ℕ
-  H2 = signerH2 (aesScheme S) key publicKey message salt roots
+  H2 = signerH2 (schemeOf S) key publicKey message salt roots
 
   -- ---- before the first challenge
 
-  pub first-made : h1 ≡ signerH1 (aesScheme S) key publicKey message salt roots
+  pub first-made : h1 ≡ signerH1 (schemeOf S) key publicKey message salt roots
   unfolding signerH1
   first-made =
-      p .h1-is ∙ firstHash-cong (aesScheme S) (laws v) publicKey message salt (λ e l. first-part w v message salt roots e)
+      p .h1-is ∙ firstHash-cong (schemeOf S) (laws v) publicKey message salt (λ e l. first-part v w message salt roots e)
 
   long : (e : ℕ) → e < executions → length (row n e frames) ≡ n
   long = frame-row-long v frames (p .frames-size)
@@ -50,76 +52,76 @@ module _ {S : Shape} (v : Valid S)
   begunOf e = put (row n e frames) (offsetsAt S) (ownRow S witness salt (row 16 e roots) e)
 
   begun-size : (e : ℕ) → e < executions → length (begunOf e) ≡ n
-  begun-size e l = own-kept v (row n e frames) (long e l) witness salt (row 16 e roots) e (witness-long w)
+  begun-size e l = own-kept v (row n e frames) (long e l) witness salt (row 16 e roots) e (witness-long v w)
 
   begun-row : (e : ℕ) → e < executions → row n e begun ≡ begunOf e
   begun-row e l = ap (row n e) (p .begun-is) ∙ row-of-rows n begunOf executions begun-size e l
 
   -- ---- under the first challenge
 
-  first-row : (e : ℕ) → row (firstChallengeLength S) e firsts ≡ firstChallenge (aesScheme S) H1 e
+  first-row : (e : ℕ) → row (firstChallengeLength S) e firsts ≡ firstChallenge (schemeOf S) H1 e
   unfolding firstChallenge
   first-row e =
       ap (row (firstChallengeLength S) e)
-      (p .firsts-is ∙ ap (λ h. shake128 (6 ∷ h) (executions * firstChallengeLength S)) first-made)
+      (firsts-is ∙ ap (λ h. shake128 (6 ∷ h) (executions * firstChallengeLength S)) first-made)
 
   abbrev heldOf : ℕ → List ℕ
-  heldOf e = offsetFrame S (pointRows S inputs) (pointRows S inverses) (pointLasts S) (firstChallenge (aesScheme S) H1 e) (begunOf e)
+  heldOf e = offsetFrame S (pointRows S inputs) (pointRows S inverses) (pointLasts S) (firstChallenge (schemeOf S) H1 e) (begunOf e)
 
   held-size : (e : ℕ) → e < executions → length (heldOf e) ≡ n
   held-size e l =
-      offset-kept v (begunOf e) (begun-size e l) (pointRows S inputs) (pointRows S inverses) (pointLasts S) (firstChallenge (aesScheme S) H1 e)
+      offset-kept v (begunOf e) (begun-size e l) (pointRows S inputs) (pointRows S inverses) (pointLasts S) (firstChallenge (schemeOf S) H1 e)
 
   held-row : (e : ℕ) → e < executions → row n e held ≡ heldOf e
   held-row e l =
       ap (row n e)
-      (p .held-is
+      (held-is
       ∙ rows-cong executions
-      (λ e l. ap₂ (λ h d. offsetFrame S (pointRows S inputs) (pointRows S inverses) (pointLasts S) (firstChallenge (aesScheme S) h e) d)
+      (λ e l. ap₂ (λ h d. offsetFrame S (pointRows S inputs) (pointRows S inverses) (pointLasts S) (firstChallenge (schemeOf S) h e) d)
       first-made (begun-row e l)))
       ∙ row-of-rows n heldOf executions held-size e l
 
-  pub second-made : h2 ≡ signerH2 (aesScheme S) key publicKey message salt roots
+  pub second-made : h2 ≡ signerH2 (schemeOf S) key publicKey message salt roots
   unfolding signerH2
   second-made =
-      p .h2-is
-      ∙ secondHash-cong (aesScheme S) (laws v) h1
-      (λ e l. ap (part (offsetsAt S + 216) (21 * wide)) (held-row e l)
+      h2-is
+      ∙ secondHash-cong (schemeOf S) (laws v) h1
+      (λ e l. ap (part (offsetsAt S + witnessLength S) (21 * wide)) (held-row e l)
       ∙ second-part w v message salt roots e (row n e frames) (long e l))
-      ∙ ap (λ h. secondHash (aesScheme S) h (signerOffsets (aesScheme S) key publicKey message salt roots)) first-made
+      ∙ ap (λ h. secondHash (schemeOf S) h (signerOffsets (schemeOf S) key publicKey message salt roots)) first-made
 
   -- ---- under the second challenge
 
-  pub third-made : h3 ≡ signerH3 (aesScheme S) key publicKey message salt roots
+  pub third-made : h3 ≡ signerH3 (schemeOf S) key publicKey message salt roots
   unfolding signerH3
   third-made =
-      p .h3-is
-      ∙ thirdHash-cong (aesScheme S) (laws v) h2
-      (λ e l. (λ j. openedPart S (take 16 publicKey) salt (row 16 e roots) e (first-row e j) (secondChallenge (aesScheme S) (second-made j) e)
+      h3-is
+      ∙ thirdHash-cong (schemeOf S) (laws v) h2
+      (λ e l. (λ j. openedPart S (take 16 publicKey) salt (row 16 e roots) e (first-row e j) (secondChallenge (schemeOf S) (second-made j) e)
       (held-row e l j))
       ∙ third-part w v message salt roots e (row n e frames) (long e l))
-      ∙ ap (λ h. thirdHash (aesScheme S) h (signerH3Part (aesScheme S) key publicKey message salt roots)) second-made
+      ∙ ap (λ h. thirdHash (schemeOf S) h (signerH3Part (schemeOf S) key publicKey message salt roots)) second-made
 
   abbrev openOf : ℕ → List ℕ
   openOf e =
-      openedFrame S (take 16 publicKey) salt (row 16 e roots) e (firstChallenge (aesScheme S) H1 e) (secondChallenge (aesScheme S) H2 e) (heldOf e)
+      openedFrame S (take 16 publicKey) salt (row 16 e roots) e (firstChallenge (schemeOf S) H1 e) (secondChallenge (schemeOf S) H2 e) (heldOf e)
 
   open-row : (e : ℕ) → e < executions → row n e opened ≡ openOf e
   open-row e l =
       ap (row n e)
-      (p .opened-is
+      (opened-is
       ∙ rows-cong executions
-      (λ e l j. openedFrame S (take 16 publicKey) salt (row 16 e roots) e (first-row e j) (secondChallenge (aesScheme S) (second-made j) e)
+      (λ e l j. openedFrame S (take 16 publicKey) salt (row 16 e roots) e (first-row e j) (secondChallenge (schemeOf S) (second-made j) e)
       (held-row e l j)))
       ∙ row-of-rows n openOf executions
-      (λ e l. opened-kept v (take 16 publicKey) salt (row 16 e roots) e (firstChallenge (aesScheme S) H1 e) (secondChallenge (aesScheme S) H2 e)
+      (λ e l. opened-kept v (take 16 publicKey) salt (row 16 e roots) e (firstChallenge (schemeOf S) H1 e) (secondChallenge (schemeOf S) H2 e)
       (heldOf e) (held-size e l)) e l
 
   -- ---- when the hidden parties are known
 
-  pub frames-made : finished ≡ rows (signerFrame (aesScheme S) key publicKey message salt roots) executions
+  pub frames-made : finished ≡ rows (signerFrame (schemeOf S) key publicKey message salt roots) executions
   frames-made =
-      p .finished-is
+      finished-is
       ∙ rows-cong executions
-      (λ e l. ap₂ (λ h d. finishedFrame S salt (row 16 e roots) e (hiddenParty (aesScheme S) h e) d) third-made (open-row e l)
+      (λ e l. ap₂ (λ h d. finishedFrame S salt (row 16 e roots) e (hiddenParty (schemeOf S) h e) d) third-made (open-row e l)
       ∙ frame-made w v message salt roots e (row n e frames) (long e l))

@@ -2,60 +2,60 @@
 use mathlib.Core.List.{List, _++_}
 use Prim.Native.Nat.{ℕ, _+_, _*_}
 use lib.ListN.{take, drop}
-use Rattle.slices.specs.Lists.{tab, rows, part, put, zipXor, sumXor}
+use Rattle.slices.specs.Lists.{rows, part, put, zipXor, sumXor}
 use Rattle.slices.specs.Layout.{total}
 use Rattle.shake.specs.Shake128.{shake128}
 use Rattle.banquet.specs.declared.Shape.{Shape}
-use Rattle.banquet.specs.Shape.{tapeSizes}
-use Rattle.banquet.specs.Sets.{aesScheme}
+use Rattle.banquet.specs.Shape.{sboxes, tapeSizes, frameSizes}
+use Rattle.banquet.specs.Sets.{schemeOf}
 use Rattle.banquet.specs.Hash.{commitment}
 use Rattle.banquet.specs.Tree.{siblingSeeds}
 use Rattle.banquet.specs.Execution.{Committed, challenge, outputShare}
 use Rattle.banquet.specs.Signer.{seedOf, tapeOf}
 use Rattle.banquet.specs.Signature.{framePart}
-use Rattle.forms.specs.Point.{near, rowAt}
 use Rattle.forms.specs.Party.{committed, shareRow}
 use Rattle.forms.specs.Offsets.{workedOffsets}
 
 module _ (S : Shape) where
-  open Shape S using (parties, depth, wide)
+  open Shape S using (parties, depth, wide, m1)
 
   -- where a frame's offsets begin: behind the sibling seeds and the hidden commitment
   abbrev pub offsetsAt : ℕ
-  offsetsAt = depth * 16 + 32
+  offsetsAt = total (take 2 (frameSizes S))
+
+  -- the bytes of key and inverses, or of their offsets
+  abbrev pub witnessLength : ℕ
+  witnessLength = 16 + sboxes S
+
+  -- the bytes of c, a and b
+  abbrev pub openedLength : ℕ
+  openedLength = wide + 2 * (m1 * wide)
 
   -- ---- before the first challenge; `witness` is the key and then the inverses of the S-boxes' inputs
 
   -- the sum of all tapes, with the true values of key and inverses added: "An offset is the true value plus the sum of tape shares."
   unfoldable pub ownRow : List ℕ → List ℕ → List ℕ → ℕ → List ℕ
-  ownRow witness salt root e = zipXor (sumXor parties (tapeOf (aesScheme S) salt root e)) witness
+  ownRow witness salt root e = zipXor (sumXor parties (tapeOf (schemeOf S) salt root e)) witness
 
   module _ (front witness salt root : List ℕ) (e : ℕ) where
     abbrev own : List ℕ
     own = ownRow witness salt root e
 
     abbrev ownCommitments : Committed
-    ownCommitments = committed front (take 16 own) (part 16 200 own)
+    ownCommitments = committed front (take 16 own) (part 16 (sboxes S) own)
 
     -- h1: "16 commitments, 16 output shares, key offset, 200 inverse offsets"
     unfoldable pub ownPart : List ℕ
     ownPart =
-        rows (λ i. commitment (aesScheme S) salt e i (seedOf (aesScheme S) salt root e i)) parties
-        ++ rows (λ i. outputShare (aesScheme S) ownCommitments i (tapeOf (aesScheme S) salt root e i)) parties ++ take 216 own
+        rows (λ i. commitment (schemeOf S) salt e i (seedOf (schemeOf S) salt root e i)) parties
+        ++ rows (λ i. outputShare (schemeOf S) ownCommitments i (tapeOf (schemeOf S) salt root e i)) parties ++ take witnessLength own
 
   -- ---- under the first challenge: the product offsets, in the frame behind the other offsets. P's shares "at 20 to 40 .. are tape shares with
   -- product offsets", and P there is "the sum of S_j times T_j".
 
-  -- the rows of the S-boxes' inputs or inverses at the points 20 to 40, and Lagrange's values there for the extra point
-  abbrev pub pointRows : List ℕ → List ℕ
-  pointRows bytes = rows (λ k. tab (λ j. rowAt S bytes j (20 + k)) 10) 21
-
-  abbrev pub pointLasts : List ℕ
-  pointLasts = tab (λ k. near S (20 + k) 20) 21
-
   unfoldable pub offsetFrame : List ℕ → List ℕ → List ℕ → List ℕ → List ℕ → List ℕ
   offsetFrame us vs lasts first frame =
-      put frame (offsetsAt + 216) (workedOffsets S us vs lasts (part offsetsAt (total (tapeSizes S)) frame) first)
+      put frame (offsetsAt + witnessLength) (workedOffsets S us vs lasts (part offsetsAt (total (tapeSizes S)) frame) first)
 
   -- ---- under the second challenge, with the offsets that the frame has: "Opened are c = P(R), a_j = S_j(R), b_j = T_j(R), with shares."
 
@@ -63,15 +63,15 @@ module _ (S : Shape) where
     -- party i's shares of the output, of c, a and b
     unfoldable pub frameShares : ℕ → List ℕ
     frameShares i =
-        shareRow (aesScheme S) (committed front (framePart (aesScheme S) frame 2) (framePart (aesScheme S) frame 3))
-        (challenge (aesScheme S) first (framePart (aesScheme S) frame 4) second) i (tapeOf (aesScheme S) salt root e i)
+        shareRow (schemeOf S) (committed front (framePart (schemeOf S) frame 2) (framePart (schemeOf S) frame 3))
+        (challenge (schemeOf S) first (framePart (schemeOf S) frame 4) second) i (tapeOf (schemeOf S) salt root e i)
 
     -- the sums c, a and b
     abbrev openedSums : List ℕ
     openedSums = drop 16 (sumXor parties frameShares)
 
     unfoldable pub openedFrame : List ℕ
-    openedFrame = put frame (offsetsAt + 216 + 21 * wide) openedSums
+    openedFrame = put frame (offsetsAt + witnessLength + 21 * wide) openedSums
 
     -- h3: "the sums c, a, b and each party's c, a, b"
     unfoldable pub openedPart : List ℕ
@@ -82,4 +82,4 @@ module _ (S : Shape) where
   unfoldable pub finishedFrame : List ℕ → List ℕ → ℕ → ℕ → List ℕ → List ℕ
   finishedFrame salt root e hidden frame =
       siblingSeeds shake128 salt e depth 0 root hidden
-      ++ (commitment (aesScheme S) salt e hidden (seedOf (aesScheme S) salt root e hidden) ++ drop offsetsAt frame)
+      ++ (commitment (schemeOf S) salt e hidden (seedOf (schemeOf S) salt root e hidden) ++ drop offsetsAt frame)

@@ -12,12 +12,12 @@ use Rattle.slices.specs.Sums.{length-zip, zip-append, drop-zip, sumXor-cong}
 use Rattle.slices.specs.Numbers.{bytesOf, numbers, length-bytesOf, length-numbers}
 use Rattle.poly.specs.Sum.{sum}
 use Rattle.field.specs.Wide.{ops}
-use Rattle.circuit.specs.Sizes.{length-outputShare}
 use Rattle.banquet.specs.declared.Shape.{Shape}
 use Rattle.banquet.specs.Scheme.{wideOps}
-use Rattle.banquet.specs.Sets.{aesScheme}
+use Rattle.banquet.specs.Sets.{schemeOf}
 use Rattle.banquet.specs.Execution.{Committed, Challenge, outputShare, openedC, openedA, openedB}
 use Rattle.banquet.specs.Signature.{openedBytes}
+use Rattle.sets.specs.Circuit.{output-long}
 use Rattle.forms.specs.Party.{shareRow}
 
 -- ---- the sum of lists, cut and joined
@@ -83,28 +83,24 @@ module _ (S : Shape) (x : Committed) (d : Challenge) (t : ℕ → List ℕ) wher
   open Shape S using (parties, wide, low, m1)
 
   abbrev shareC : ℕ → ℕ
-  shareC i = openedC (aesScheme S) x i (t i) d
+  shareC i = openedC (schemeOf S) x i (t i) d
 
   abbrev shareA : ℕ → ℕ → ℕ
-  shareA i = openedA (aesScheme S) x i (t i) d
+  shareA i = openedA (schemeOf S) x i (t i) d
 
   abbrev shareB : ℕ → ℕ → ℕ
-  shareB i = openedB (aesScheme S) x i (t i) d
+  shareB i = openedB (schemeOf S) x i (t i) d
 
   abbrev rowOf : ℕ → List ℕ
-  rowOf i = shareRow (aesScheme S) x d i (t i)
+  rowOf i = shareRow (schemeOf S) x d i (t i)
 
-  length-output : (i : ℕ) → length (outputShare (aesScheme S) x i (t i)) ≡ 16
-  unfolding outputShare
-  length-output i = length-outputShare _
-
-  opened-row : (i : ℕ) → drop 16 (rowOf i) ≡ openedBytes (aesScheme S) (shareC i) (shareA i) (shareB i)
+  opened-row : (i : ℕ) → drop 16 (rowOf i) ≡ openedBytes (schemeOf S) (shareC i) (shareA i) (shareB i)
   unfolding shareRow
   opened-row i =
-      drop-at (outputShare (aesScheme S) x i (t i)) _ 16 (length-output i)
+      drop-at (outputShare (schemeOf S) x i (t i)) _ 16 (output-long S x i (t i))
       ∙ sym (append-assoc (bytesOf wide (shareC i)) (numbers wide m1 (shareA i)) (numbers wide m1 (shareB i)))
 
-  pub opened-rows : rows (λ i. drop 16 (rowOf i)) parties ≡ rows (λ i. openedBytes (aesScheme S) (shareC i) (shareA i) (shareB i)) parties
+  pub opened-rows : rows (λ i. drop 16 (rowOf i)) parties ≡ rows (λ i. openedBytes (schemeOf S) (shareC i) (shareA i) (shareB i)) parties
   opened-rows = rows-cong parties (λ i l. opened-row i)
 
   abbrev bytesC : ℕ → List ℕ
@@ -117,8 +113,8 @@ module _ (S : Shape) (x : Committed) (d : Challenge) (t : ℕ → List ℕ) wher
   length-ca i = length-append (bytesC i) (bytesA i) ∙ ap₂ _+_ (length-bytesOf wide (shareC i)) (length-numbers wide m1 (shareA i))
 
   pub opened-sums : 0 < parties → drop 16 (sumXor parties rowOf)
-      ≡ openedBytes (aesScheme S) (sum (wideOps (aesScheme S)) parties shareC) (λ j. sum (wideOps (aesScheme S)) parties (λ i. shareA i j))
-      (λ j. sum (wideOps (aesScheme S)) parties (λ i. shareB i j))
+      ≡ openedBytes (schemeOf S) (sum (wideOps (schemeOf S)) parties shareC) (λ j. sum (wideOps (schemeOf S)) parties (λ i. shareA i j))
+      (λ j. sum (wideOps (schemeOf S)) parties (λ i. shareB i j))
   opened-sums some =
       drop-sum 16 parties rowOf ∙ sumXor-cong parties (λ i l. opened-row i)
       ∙ sum-append (wide + m1 * wide) parties (λ i. bytesC i ++ bytesA i) (λ i. numbers wide m1 (shareB i)) length-ca

@@ -1,4 +1,5 @@
--- Laws for proofs of functions: loops that fill a slice, parts that are lent and come back, rows, arrays.
+-- Laws for proofs of functions: counts, loops that fill a slice, parts that are lent and come back, rows, arrays.
+pub mod Counts
 pub mod Fill
 pub mod Put
 pub mod Rows

@@ -2,14 +2,15 @@
 -- The products i * k and n * k are atoms to `omega`: cite `row-fits` and it closes the rest. Assumes nothing.
 use mathlib.Core.Path.{_≡_, refl, sym, ap, ap₂, _∙_}
 use mathlib.Core.List.{List, _++_}
-use Prim.Native.Nat.{ℕ, suc, _+_, _-_, _*_, _≤_, _<_}
-use native.Mathlib.Nat.{mul-le-mul-right, zero-mul, suc-mul}
+use Prim.Native.Nat.{ℕ, suc, _+_, _-_, _*_, _≤_}
+use native.Mathlib.Nat.{zero-mul, suc-mul}
 use native.Mathlib.Numerals.{add-one}
 use native.Mathlib.Omega.{arith}
 use lib.ListN.{length, take, drop, length-drop}
 use lib.Seq.{take-all, length-take-le, drop-append-le, take-append-le}
 use borrow.Rule.Slice.PartMut.{putMid}
 use Rattle.slices.specs.Lists.{put, rows, row}
+pub use Rattle.slices.specs.Tab.{row-fits}
 use Rattle.slices.proofs.Put.{length-put, take-put, put-mid}
 
 -- ---- where a row lies
@@ -17,12 +18,6 @@ use Rattle.slices.proofs.Put.{length-put, take-put, put-mid}
 -- (i + 1) * k, as the code reaches it
 pub row-next : (i k : ℕ) → (i + 1) * k ≡ i * k + k
 row-next i k = rw add-one (suc-mul i k)
-
--- row i of n rows fits
-pub row-fits : (k : ℕ) {i n : ℕ} → i < n → i * k + k ≤ n * k
-row-fits k {i} {n} h =
-    let more : (i + 1) * k ≤ n * k = mul-le-mul-right k (omega arith) in
-    omega (arith, more, row-next i k)
 
 -- what the code writes `&s[i * k..i * k + k]`
 row-size : (i k : ℕ) → i * k + k - i * k ≡ k

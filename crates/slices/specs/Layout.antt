@@ -25,6 +25,14 @@ layout (s ∷ fields) = s ++ layout fields
 
 -- ---- laws
 
+pub field-nil : (sizes : List ℕ) (k : ℕ) → field sizes k [] ≡ []
+unfolding field
+field-nil [] k = refl
+field-nil (zero ∷ sizes) zero = refl
+field-nil (suc n ∷ sizes) zero = refl
+field-nil (zero ∷ sizes) (suc k) = field-nil sizes k
+field-nil (suc n ∷ sizes) (suc k) = field-nil sizes k
+
 pub length-field-le : (sizes : List ℕ) (k : ℕ) (s : List ℕ) → length (field sizes k s) ≤ getD sizes k 0
 unfolding field
 length-field-le [] k s = omega arith

@@ -3,7 +3,7 @@ use mathlib.Core.Path.{_≡_, refl, sym, ap, ap₂, _∙_}
 use mathlib.Core.List.{List, [], _∷_, _++_}
 use Prim.Native.Nat.{ℕ, zero, suc, _<_, _≤_, max}
 use native.Mathlib.Omega.{arith}
-use lib.Bits.{bitXor, xor-zero-r, xor-lt, xor-self}
+use lib.Bits.{bitXor, xor-comm, xor-zero-r, xor-lt, xor-self}
 use lib.Seq.{ext-getD}
 use lib.ListN.{length, getD, drop, replicate}
 use Rattle.slices.specs.Lists.{tab, zipXor, sumXor}
@@ -19,6 +19,18 @@ getD-zip [] ys i = refl
 getD-zip (x ∷ xs) [] i = sym (xor-zero-r (getD (x ∷ xs) i 0))
 getD-zip (x ∷ xs) (y ∷ ys) zero = refl
 getD-zip (x ∷ xs) (y ∷ ys) (suc i) = getD-zip xs ys i
+
+pub zip-nil : (xs : List ℕ) → zipXor xs [] ≡ xs
+unfolding zipXor
+zip-nil [] = refl
+zip-nil (x ∷ xs) = refl
+
+pub zip-comm : (xs ys : List ℕ) → zipXor xs ys ≡ zipXor ys xs
+unfolding zipXor
+zip-comm [] [] = refl
+zip-comm [] (y ∷ ys) = refl
+zip-comm (x ∷ xs) [] = refl
+zip-comm (x ∷ xs) (y ∷ ys) = ap₂ _∷_ (xor-comm x y) (zip-comm xs ys)
 
 pub length-zip-max : (xs ys : List ℕ) → length (zipXor xs ys) ≡ max (length xs) (length ys)
 unfolding zipXor
@@ -49,11 +61,7 @@ pub drop-zip : (n : ℕ) (xs ys : List ℕ) → drop n (zipXor xs ys) ≡ zipXor
 unfolding zipXor
 drop-zip zero xs ys = refl
 drop-zip (suc n) [] ys = refl
-drop-zip (suc n) (x ∷ xs) [] = nil-right (drop n xs)
-  where
-    nil-right : (l : List ℕ) → l ≡ zipXor l []
-    nil-right [] = refl
-    nil-right (x ∷ l) = refl
+drop-zip (suc n) (x ∷ xs) [] = sym (zip-nil (drop n xs))
 drop-zip (suc n) (x ∷ xs) (y ∷ ys) = drop-zip n xs ys
 
 -- zeros, as many as the list is long, add nothing

@@ -6,8 +6,8 @@ use native.Mathlib.Nat.{le-of-suc-le-suc, not-suc-le-zero, mul-le-mul-right, suc
 use native.Mathlib.Decide.{ℕ-discrete}
 use native.Mathlib.Omega.{arith}
 use lib.Arith.{digits-lt}
-use lib.ListN.{length, getD, drop, replicate, length-append, length-drop, List·getD-append}
-use lib.Seq.{getD-append-add, getD-take, getD-drop, length-take-le}
+use lib.ListN.{length, getD, take, drop, replicate, length-append, length-drop, List·getD-append}
+use lib.Seq.{getD-append-add, getD-take, getD-drop, take-add, length-take-le}
 use Rattle.slices.specs.Lists.{tab, rows, part, row}
 
 -- ---- tab
@@ -55,6 +55,10 @@ part-tab k a s h =
 
 -- ---- rows
 
+-- row i of n rows of k elements fits
+pub row-fits : (k : ℕ) {i n : ℕ} → i < n → i * k + k ≤ n * k
+row-fits k {i} {n} h = let e : suc i * k ≤ n * k = mul-le-mul-right k h in omega (arith, e, suc-mul i k)
+
 pub length-rows : (k : ℕ) (f : ℕ → List ℕ) (n : ℕ) → ((j : ℕ) → j < n → length (f j) ≡ k) → length (rows f n) ≡ n * k
 length-rows k f zero h = sym (zero-mul k)
 length-rows k f (suc n) h =
@@ -82,8 +86,10 @@ getD-rows k f (suc n) s j i h l = go (ℕ-discrete j n) (λ m. getD-rows k f n (
 -- row i
 pub row-of-rows : (k : ℕ) (f : ℕ → List ℕ) (n : ℕ) → ((j : ℕ) → j < n → length (f j) ≡ k) → (i : ℕ) → i < n → row k i (rows f n) ≡ f i
 row-of-rows k f n s i l =
-    part-tab k (i * k) (rows f n) (rw (length-rows k f n s) fits)
+    part-tab k (i * k) (rows f n) (rw (length-rows k f n s) (row-fits k l))
     ∙ tab-cong k (λ b m. getD-rows k f n s i b l m) ∙ tab-sized (f i) (s i l)
-  where
-    fits : i * k + k ≤ n * k
-    fits = let e : suc i * k ≤ n * k = mul-le-mul-right k l in omega (arith, e, suc-mul i k)
+
+-- a list is its rows
+pub rows-of : (k n : ℕ) (s : List ℕ) → take (n * k) s ≡ rows (λ i. row k i s) n
+rows-of k zero s = ap (λ m. take m s) (zero-mul k)
+rows-of k (suc n) s = ap (λ m. take m s) (suc-mul n k) ∙ take-add (n * k) k s ∙ ap (_++ row k n s) (rows-of k n s)

@@ -16,11 +16,11 @@ pub fn values_s(
     last: u64,
     out: &mut [u64],
 )
-    requires { ⌜ Valid shape × (length (now first) ≡ 10) × (length (now rows) ≡ 10) × (length (now extra) ≡ 20)
-        × (length (now out) ≡ 10) ⌝ }
+    requires { ⌜ Valid shape × (length (now first) ≡ shape .m1) × (length (now rows) ≡ shape .m1) × (length (now extra) ≡ 2 * shape .m1)
+        × (length (now out) ≡ shape .m1) ⌝ }
     ensures { λ _. ⌜ now (out .exit)
         ≡ tab (λ j. valueS shape (getD (now (first .entry)) j 0) (getD (now (rows .entry)) j 0) (getD (now (extra .entry)) (2 * j) 0) last)
-        10 ⌝ }
+        (shape .m1) ⌝ }
 {
     let bits = (8 * shape.wide) as u32;
     for j in 0..out.len() {
@@ -31,9 +31,9 @@ pub fn values_s(
 
 // T_j at a point for each j.
 pub fn values_t(shape: Shape, rows: &[u64], extra: &[u64], last: u64, out: &mut [u64])
-    requires { ⌜ Valid shape × (length (now rows) ≡ 10) × (length (now extra) ≡ 20) × (length (now out) ≡ 10) ⌝ }
+    requires { ⌜ Valid shape × (length (now rows) ≡ shape .m1) × (length (now extra) ≡ 2 * shape .m1) × (length (now out) ≡ shape .m1) ⌝ }
     ensures { λ _. ⌜ now (out .exit)
-        ≡ tab (λ j. valueT shape (getD (now (rows .entry)) j 0) (getD (now (extra .entry)) (2 * j + 1) 0) last) 10 ⌝ }
+        ≡ tab (λ j. valueT shape (getD (now (rows .entry)) j 0) (getD (now (extra .entry)) (2 * j + 1) 0) last) (shape .m1) ⌝ }
 {
     let bits = (8 * shape.wide) as u32;
     for j in 0..out.len() {

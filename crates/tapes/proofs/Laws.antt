@@ -7,7 +7,7 @@ use lib.ListN.{length, getD}
 use Rattle.slices.specs.Layout.{field, total, length-field}
 use Rattle.banquet.specs.declared.Shape.{Shape}
 use Rattle.banquet.specs.Shape.{tapeSizes}
-use Rattle.banquet.specs.Sets.{aesScheme}
+use Rattle.banquet.specs.Sets.{schemeOf}
 use Rattle.banquet.specs.Execution.{tapePart}
 use Rattle.sets.specs.Valid.{Valid}
 use Rattle.sets.specs.Bounds.{tape-most}
@@ -17,11 +17,11 @@ module _ {S : Shape} (v : Valid S) where
       → (k < length sizes) × (total sizes ≤ length t) × (total sizes < 2 ^ 63)
   sizes-fit t e h l = rw e (h, omega arith, omega (arith, tape-most v))
 
-  pub part-is : (k : ℕ) (t : List ℕ) {sizes r : List ℕ} → sizes ≡ tapeSizes S → r ≡ field sizes k t → r ≡ tapePart (aesScheme S) k t
+  pub part-is : (k : ℕ) (t : List ℕ) {sizes r : List ℕ} → sizes ≡ tapeSizes S → r ≡ field sizes k t → r ≡ tapePart (schemeOf S) k t
   unfolding tapePart
   part-is k t e h = h ∙ ap (λ s. field s k t) e
 
-  pub part-long : (k : ℕ) (t : List ℕ) {r : List ℕ} → length t ≡ total (tapeSizes S) → r ≡ tapePart (aesScheme S) k t
+  pub part-long : (k : ℕ) (t : List ℕ) {r : List ℕ} → length t ≡ total (tapeSizes S) → r ≡ tapePart (schemeOf S) k t
       → length r ≡ getD (tapeSizes S) k 0
   unfolding tapePart
   part-long k t l h = ap length h ∙ length-field (tapeSizes S) k t l

@@ -51,7 +51,7 @@ use Rattle.theorems.specs.Laws.{Laws}
 use Rattle.theorems.specs.Inputs.{OpenInput}
 use Rattle.theorems.specs.Keys.{sized-front}
 use Rattle.banquet.specs.OpeningChecks.{PartyHolds, TranscriptHolds, holds-opening}
-use Rattle.theorems.specs.Shares.{IsTape, hashed-tape, Fits, sized-outputShare}
+use Rattle.theorems.specs.Shares.{IsTape, sized-commitment, hashed-tape, Fits, sized-outputShare}
 use Rattle.theorems.specs.Seeds.{length-siblingSeeds, shown-siblings}
 use Rattle.theorems.specs.Opened.{WideChallenge, wide-C, wide-A, wide-B}
 use Rattle.theorems.specs.Honest.{honest-fits, honest-outputs, honest-product, honest-wide}
@@ -120,8 +120,7 @@ module _ (𝓢 : Scheme) (L : Laws 𝓢) (key publicKey salt root firstBytes : L
       ∷ rows (λ i. numbers wide m1 (a i)) parties ∷ rows (λ i. numbers wide m1 (b i)) parties ∷ []
 
   commitment-size : (i : ℕ) → i < parties → length (commitment 𝓢 salt e i (seed i)) ≡ 32
-  unfolding commitment
-  commitment-size i l = L .hash-sized _ 32 .size
+  commitment-size i l = sized-commitment 𝓢 L salt e i (seed i) .size
 
   output-size : (i : ℕ) → i < parties → length (outputShare 𝓢 x i (tapes i)) ≡ 16
   output-size i l = sized-outputShare 𝓢 L x fits i (ts i l) .size

@@ -19,7 +19,7 @@ use Rattle.circuit.specs.Linear.{Linear, parties-linear}
 use Rattle.banquet.specs.declared.Shape.{Shape}
 use Rattle.banquet.specs.Shape.{sboxes, sboxAt, tapeSizes}
 use Rattle.banquet.specs.Scheme.{Scheme, wideOps, lifted, Wide}
-use Rattle.banquet.specs.Hash.{tape}
+use Rattle.banquet.specs.Hash.{commitment, tape}
 use Rattle.banquet.specs.Execution.{
   Committed,
   tapePart,
@@ -72,7 +72,11 @@ module _ (𝓢 : Scheme) (L : Laws 𝓢) where
       ∙ ap₂ bitXor (sym (byte-sum 𝓢 L parties s k)) (sum-at F parties 0 (getD off k 0) (L .some-party))
       ∙ xor-comm _ (getD off k 0) ∙ sym (getD-zip off (sumXor parties s) k))
 
-  -- ---- tapes
+  -- ---- commitments and tapes
+
+  pub sized-commitment : (salt : List ℕ) (e i : ℕ) (seed : List ℕ) → Sized 32 (commitment 𝓢 salt e i seed)
+  unfolding commitment
+  sized-commitment salt e i seed = L .hash-sized _ 32
 
   abbrev pub IsTape : List ℕ → Type 0
   IsTape t = Sized (total (tapeSizes (𝓢 .shape))) t

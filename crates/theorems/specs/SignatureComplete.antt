@@ -6,7 +6,7 @@ use borrow.Author.Tests.{eq-eqb, lt-ltb}
 use lib.ListN.{length, getD, length-append}
 use lib.Seq.{drop-at}
 use Rattle.slices.specs.Lists.{rows, row}
-use Rattle.slices.specs.Bytes.{Bytes, Sized, append-bytes, rows-bytes}
+use Rattle.slices.specs.Bytes.{Bytes, append-bytes, rows-bytes}
 use Rattle.slices.specs.Tab.{length-rows, row-of-rows}
 use Rattle.slices.specs.Layout.{total, layout, HasSizes, length-layout, layout-bytes, field-layout-append}
 use Rattle.poly.specs.Sum.{sum}
@@ -15,7 +15,6 @@ use Rattle.banquet.specs.declared.Answer.the-variants.{Accepted}
 use Rattle.banquet.specs.Shape.{workLength, headSizes, frameSizes, signatureLength}
 use Rattle.banquet.specs.Scheme.{Scheme, wideOps, wideMul}
 use Rattle.banquet.specs.Hash.{firstHash, thirdHash}
-use Rattle.banquet.specs.Key.{frontOf, ciphertextOf}
 use Rattle.banquet.specs.Signature.{
   signerH1,
   signerH2,
@@ -39,27 +38,14 @@ use Rattle.banquet.specs.Calls.{verifyAnswer}
 use Rattle.theorems.specs.Laws.{Laws}
 use Rattle.theorems.specs.SignatureFrame as one
 use Rattle.theorems.specs.Inputs.{SignInput}
-use Rattle.theorems.specs.Keys.{sized-front}
 use Rattle.banquet.specs.SignatureChecks.{FramesHold, holds-signature}
 use Rattle.theorems.specs.Recomputed.{firstHash-cong, secondHash-cong, thirdHash-cong}
 
 module _ (𝓢 : Scheme) (L : Laws 𝓢) (key publicKey message salt seeds : List ℕ) (input : SignInput 𝓢 key publicKey message salt seeds) where
-  open Shape (𝓢 .shape) using (parties, executions, depth, wide, m1, m2, front)
-
-  abbrev f : List ℕ
-  f = frontOf 𝓢 publicKey
-
-  abbrev ct : List ℕ
-  ct = ciphertextOf 𝓢 publicKey
-
-  sf : Sized front f
-  sf = sized-front 𝓢 L (input .public-sized)
+  open Shape (𝓢 .shape) using (executions, m1)
 
   abbrev h1 : List ℕ
   h1 = signerH1 𝓢 key publicKey message salt seeds
-
-  abbrev h2 : List ℕ
-  h2 = signerH2 𝓢 key publicKey message salt seeds
 
   abbrev h3 : List ℕ
   h3 = signerH3 𝓢 key publicKey message salt seeds
@@ -71,7 +57,7 @@ module _ (𝓢 : Scheme) (L : Laws 𝓢) (key publicKey message salt seeds : Lis
     abbrev h2′ : List ℕ
     h2′ = ownH2 𝓢 publicKey message salt h1 h3 frames
 
-    h2-is : h2′ ≡ h2
+    h2-is : h2′ ≡ signerH2 𝓢 key publicKey message salt seeds
     unfolding signerH2
     h2-is = secondHash-cong 𝓢 L h1 (λ e l. ap (λ (r : List ℕ). framePart 𝓢 r 4) (are e l) ∙ one.is 𝓢 L key publicKey message salt seeds input e 4)
 

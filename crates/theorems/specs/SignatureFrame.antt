@@ -64,7 +64,7 @@ use Rattle.theorems.specs.Laws.{Laws}
 use Rattle.theorems.specs.Inputs.{SignInput}
 use Rattle.theorems.specs.Keys.{sized-front}
 use Rattle.theorems.specs.Wide.{wide-field}
-use Rattle.theorems.specs.Shares.{IsTape, hashed-tape, Fits, sized-outputShare}
+use Rattle.theorems.specs.Shares.{IsTape, sized-commitment, hashed-tape, Fits, sized-outputShare}
 use Rattle.theorems.specs.Seeds.{length-siblingSeeds, siblingSeeds-bytes, shown-siblings}
 use Rattle.theorems.specs.Opened.{WideChallenge, wide-C, wide-A, wide-B}
 use Rattle.theorems.specs.Honest.{honest-fits, honest-outputs, honest-product, honest-wide}
@@ -143,10 +143,6 @@ module _ (𝓢 : Scheme) (L : Laws 𝓢) (key publicKey message salt seeds : Lis
     product =
         honest-product 𝓢 L f key ct tapes ts sf (input .key-sized) (input .good) _ _ (firstChallenge-bytes 𝓢 L h1 e) (wide-secondChallenge 𝓢 L h2 e)
 
-    commitment-size : (i : ℕ) (s : List ℕ) → length (commitment 𝓢 salt e i s) ≡ 32
-    unfolding commitment
-    commitment-size i s = L .hash-sized _ 32 .size
-
     abbrev fields : List (List ℕ)
     fields =
         siblingSeeds (𝓢 .hash) salt e depth 0 (row 16 e seeds) hidden ∷ commitment 𝓢 salt e hidden (seed hidden) ∷ x .keyOffset ∷ x .inverseOffsets
@@ -157,7 +153,7 @@ module _ (𝓢 : Scheme) (L : Laws 𝓢) (key publicKey message salt seeds : Lis
     sizes = (
       length-siblingSeeds (𝓢 .hash) (L .hash-sized) salt e depth 0 _ hidden,
       (
-        commitment-size hidden _,
+        sized-commitment 𝓢 L salt e hidden _ .size,
         (
           fits .fits-key .size,
           (
@@ -172,17 +168,13 @@ module _ (𝓢 : Scheme) (L : Laws 𝓢) (key publicKey message salt seeds : Lis
     unfolding signerFrame
     frame-size = length-layout (frameSizes (𝓢 .shape)) fields sizes
 
-    commitment-bytes : (i : ℕ) (s : List ℕ) → Bytes (commitment 𝓢 salt e i s)
-    unfolding commitment
-    commitment-bytes i s = L .hash-sized _ 32 .bytes
-
     pub frame-bytes : Bytes (frame e)
     unfolding signerFrame signerOffsets productOffsets
     frame-bytes =
         layout-bytes fields (
           siblingSeeds-bytes (𝓢 .hash) (L .hash-sized) salt e depth 0 _ hidden,
           (
-            commitment-bytes hidden _,
+            sized-commitment 𝓢 L salt e hidden _ .bytes,
             (
               fits .fits-key .bytes,
               (

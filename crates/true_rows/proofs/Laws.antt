@@ -8,7 +8,7 @@ use mir.Val.{Fits}
 use Rattle.slices.specs.Lists.{tab, rows}
 use Rattle.slices.specs.Tab.{tab-cong}
 use Rattle.slices.specs.Bytes.{Bytes}
-use Rattle.slices.proofs.Rows.{Stacking, stacking-all}
+use Rattle.slices.proofs.Rows.{Stacking, stacking-all, row-fits}
 use Rattle.banquet.specs.declared.Shape.{Shape}
 use Rattle.sets.specs.Valid.{Valid}
 use Rattle.sets.specs.Laws.{laws}
@@ -24,31 +24,28 @@ module _ {S : Shape} (v : Valid S) where
       → out ≡ tab (λ j. rowAt S bytes j x) n
   rows-right x n b t e = e ∙ tab-cong n (λ j l. tabled-row v x b t j)
 
--- the indices of turn k fit, and its rows are there
-pub record Turn (k : ℕ) : Type 0 where
-  pub row-start : Fits w64 (k * 10)
-  pub row-bytes : Fits w64 (k * 10 * 8)
-  pub row-end : Fits w64 (k * 10 + 10)
-  pub row-fits : k * 10 + 10 ≤ 210
+-- the indices of turn k fit, and its rows of m numbers are there
+pub record Turn (m k : ℕ) : Type 0 where
+  pub row-start : Fits w64 (k * m)
+  pub row-bytes : Fits w64 (k * m * 8)
+  pub row-end : Fits w64 (k * m + m)
+  pub row-room : k * m + m ≤ 21 * m
   pub point : Fits w64 (20 + k)
   pub number-bytes : Fits w64 (k * 8)
   pub next : Fits w64 (k + 1)
   pub nearer : 21 - (k + 1) < 21 - k
 
-pub turn : {k : ℕ} → k < 21 → Turn k
-turn h = record {
-  row-start = omega (arith, h);
-  row-bytes = omega (arith, h);
-  row-end = omega (arith, h);
-  row-fits = omega (arith, h);
+pub turn : {m k : ℕ} → m ≤ 10 → k < 21 → Turn m k
+turn {m} few h = record {
+  row-start = omega (arith, row-fits m h, few);
+  row-bytes = omega (arith, row-fits m h, few);
+  row-end = omega (arith, row-fits m h, few);
+  row-room = row-fits m h;
   point = omega (arith, h);
   number-bytes = omega (arith, h);
   next = omega (arith, h);
   nearer = omega (arith, h);
 }
-
-pub as-long : {n m k : ℕ} → n ≤ k → m ≡ k → n ≤ m
-as-long h e = omega (arith, h, e)
 
 -- all rows are written
 pub stacked : {f : ℕ → List ℕ} {k i n m : ℕ} {l : List ℕ} → Stacking f k i m l → i ≡ n → m ≤ n * k → l ≡ rows f n

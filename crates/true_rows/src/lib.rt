@@ -1,12 +1,13 @@
-// What the holder of the key knows at the points 20 to 40: the rows of the S-boxes' inputs and of their inverses. They depend on key and plaintext
-// alone, so that one signature's executions share them.
+// What the holder of the key knows at the points 20 to 40: the rows of the S-boxes' inputs and of their inverses. They depend on the key and the
+// public key alone, so that one signature's executions share them.
 use banquet::Shape;
 ghost use mathlib.Core.Path.{_≡_};
 ghost use Prim.Native.Nat.{_+_, _*_, _^_, _<_};
 ghost use lib.ListN.{length};
-ghost use Rattle.slices.specs.Lists.{tab, rows as rowsOf};
+ghost use Rattle.slices.specs.Lists.{tab};
+ghost use Rattle.banquet.specs.Shape.{sboxes};
 ghost use Rattle.sets.specs.Valid.{Valid};
-ghost use Rattle.forms.specs.Point.{near, rowAt};
+ghost use Rattle.forms.specs.Point.{near, rowAt, pointRows, pointLasts};
 
 // For each j the rows of both at x; Lagrange's value there for the extra point.
 fn point_rows(
@@ -17,11 +18,11 @@ fn point_rows(
     u: &mut [u64],
     v: &mut [u64],
 ) -> u64
-    requires { ⌜ Valid shape × (x < 2 ^ (8 * shape .wide)) × (length (now inputs) ≡ 200) × (length (now inverses) ≡ 200)
-        × (length (now u) ≡ 10) × (length (now v) ≡ 10) ⌝ }
+    requires { ⌜ Valid shape × (x < 2 ^ (8 * shape .wide)) × (length (now inputs) ≡ sboxes shape) × (length (now inverses) ≡ sboxes shape)
+        × (length (now u) ≡ shape .m1) × (length (now v) ≡ shape .m1) ⌝ }
     ensures { λ r. ⌜ r ≡ near shape x 20 ⌝ }
-    ensures { λ _. ⌜ now (u .exit) ≡ tab (λ j. rowAt shape (now (inputs .entry)) j x) 10 ⌝ }
-    ensures { λ _. ⌜ now (v .exit) ≡ tab (λ j. rowAt shape (now (inverses .entry)) j x) 10 ⌝ }
+    ensures { λ _. ⌜ now (u .exit) ≡ tab (λ j. rowAt shape (now (inputs .entry)) j x) (shape .m1) ⌝ }
+    ensures { λ _. ⌜ now (v .exit) ≡ tab (λ j. rowAt shape (now (inverses .entry)) j x) (shape .m1) ⌝ }
 {
     let mut tables = [0u64; 640];
     let last = points::tables(shape, x, &mut tables);
@@ -39,15 +40,16 @@ pub fn true_rows(
     vs: &mut [u64],
     lasts: &mut [u64],
 )
-    requires { ⌜ Valid shape × (length (now inputs) ≡ 200) × (length (now inverses) ≡ 200) × (length (now us) ≡ 210)
-        × (length (now vs) ≡ 210) × (length (now lasts) ≡ 21) ⌝ }
-    ensures { λ _. ⌜ now (us .exit) ≡ rowsOf (λ k. tab (λ j. rowAt shape (now (inputs .entry)) j (20 + k)) 10) 21 ⌝ }
-    ensures { λ _. ⌜ now (vs .exit) ≡ rowsOf (λ k. tab (λ j. rowAt shape (now (inverses .entry)) j (20 + k)) 10) 21 ⌝ }
-    ensures { λ _. ⌜ now (lasts .exit) ≡ tab (λ k. near shape (20 + k) 20) 21 ⌝ }
+    requires { ⌜ Valid shape × (length (now inputs) ≡ sboxes shape) × (length (now inverses) ≡ sboxes shape)
+        × (length (now us) ≡ 21 * shape .m1) × (length (now vs) ≡ 21 * shape .m1) × (length (now lasts) ≡ 21) ⌝ }
+    ensures { λ _. ⌜ now (us .exit) ≡ pointRows shape (now (inputs .entry)) ⌝ }
+    ensures { λ _. ⌜ now (vs .exit) ≡ pointRows shape (now (inverses .entry)) ⌝ }
+    ensures { λ _. ⌜ now (lasts .exit) ≡ pointLasts shape ⌝ }
 {
+    let m = shape.m1;
     for k in 0..21 {
-        let a = k * 10;
-        let b = a + 10;
+        let a = k * m;
+        let b = a + m;
         lasts[k] = point_rows(
             shape,
             (20 + k) as u64,

@@ -21,7 +21,7 @@ use Rattle.banquet.specs.declared.Answer.the-variants.{
   ThirdHashDiffers,
 }
 use Rattle.banquet.specs.Shape.{publicKeyLength, signatureLength}
-use Rattle.banquet.specs.Sets.{aesScheme}
+use Rattle.banquet.specs.Sets.{schemeOf}
 use Rattle.banquet.specs.Answer.{require, cleared, workAfter}
 use Rattle.banquet.specs.Signature.{headPart, frameOf, frameHolds, recomputedH1, recomputedH3, checkSignature}
 use Rattle.banquet.specs.Calls.{verifyAnswer}
@@ -36,7 +36,7 @@ module _ (S : Shape) (publicKey message salt h1 h3 : List ℕ) (frames : ℕ →
   open Shape S using (executions)
 
   abbrev checked-answer : Answer
-  checked-answer = checkSignature (aesScheme S) publicKey message salt h1 h3 frames
+  checked-answer = checkSignature (schemeOf S) publicKey message salt h1 h3 frames
 
   -- each leaves the work slice's front zero, and so does acceptance
   signature-clears : Clears checked-answer
@@ -46,7 +46,7 @@ module _ (S : Shape) (publicKey message salt h1 h3 : List ℕ) (frames : ℕ →
       (require-clears _ (record { is = refl }) (require-clears _ (record { is = refl }) (record { is = refl })))
 
   -- found is the lowest execution whose product fails
-  module _ {found : ℕ} (f : found ≡ lowest executions 0 (λ e. frameHolds (aesScheme S) (frames e))) where
+  module _ {found : ℕ} (f : found ≡ lowest executions 0 (λ e. frameHolds (schemeOf S) (frames e))) where
     pub product-refused : found < executions → ProductDiffers found ≡ checked-answer
     unfolding checkSignature
     product-refused l = sym (each-found _ ProductDiffers _ executions f l)
@@ -54,17 +54,17 @@ module _ (S : Shape) (publicKey message salt h1 h3 : List ℕ) (frames : ℕ →
     module _ (none : executions ≤ found) where
       -- what the hashes answer
       pub products-hold : checked-answer
-          ≡ require (same (recomputedH1 (aesScheme S) publicKey message salt h1 h3 frames) h1) FirstHashDiffers
-          (require (same (recomputedH3 (aesScheme S) publicKey message salt h1 h3 frames) h3) ThirdHashDiffers Accepted)
+          ≡ require (same (recomputedH1 (schemeOf S) publicKey message salt h1 h3 frames) h1) FirstHashDiffers
+          (require (same (recomputedH3 (schemeOf S) publicKey message salt h1 h3 frames) h3) ThirdHashDiffers Accepted)
       unfolding checkSignature
       products-hold = each-none _ ProductDiffers _ executions f none
 
-      module _ {x : Bool} (first : x ≡ same (recomputedH1 (aesScheme S) publicKey message salt h1 h3 frames) h1) where
+      module _ {x : Bool} (first : x ≡ same (recomputedH1 (schemeOf S) publicKey message salt h1 h3 frames) h1) where
         pub first-refused : x ≡ false → FirstHashDiffers ≡ checked-answer
         unfolding require
         first-refused p = sym (products-hold ∙ rw (← first, p))
 
-        module _ {y : Bool} (third : y ≡ same (recomputedH3 (aesScheme S) publicKey message salt h1 h3 frames) h3) where
+        module _ {y : Bool} (third : y ≡ same (recomputedH3 (schemeOf S) publicKey message salt h1 h3 frames) h3) where
           pub third-refused : x ≡ true → y ≡ false → ThirdHashDiffers ≡ checked-answer
           unfolding require
           third-refused p q = sym (products-hold ∙ rw (← first, p, ← third, q))
@@ -77,7 +77,7 @@ module _ (S : Shape) (publicKey message salt h1 h3 : List ℕ) (frames : ℕ →
 
 module _ {S : Shape} (v : Valid S) (publicKey message s work : List ℕ) where
   abbrev answer : Answer
-  answer = verifyAnswer (aesScheme S) publicKey message s work
+  answer = verifyAnswer (schemeOf S) publicKey message s work
 
   -- the contract, where the answer is a and the work slice holds w
   abbrev pub Called : Answer → List ℕ → Type 0
@@ -112,8 +112,8 @@ module _ {S : Shape} (v : Valid S) (publicKey message s work : List ℕ) where
         module _ (room : 65536 ≤ length work) where
           abbrev inner : Answer
           inner =
-              checkSignature (aesScheme S) publicKey message (headPart (aesScheme S) 0 s) (headPart (aesScheme S) 1 s) (headPart (aesScheme S) 2 s)
-              (frameOf (aesScheme S) s)
+              checkSignature (schemeOf S) publicKey message (headPart (schemeOf S) 0 s) (headPart (schemeOf S) 1 s) (headPart (schemeOf S) 2 s)
+              (frameOf (schemeOf S) s)
 
           lengths-right : answer ≡ inner
           unfolding verifyAnswer require
@@ -122,6 +122,6 @@ module _ {S : Shape} (v : Valid S) (publicKey message s work : List ℕ) where
           pub checked : {r : Answer} {u w : List ℕ} → r ≡ inner → Scratch work u → w ≡ cleared u → Called r w
           checked {r} q t e =
               let clear : Clears r =
-              rw q (signature-clears S publicKey message (headPart (aesScheme S) 0 s) (headPart (aesScheme S) 1 s) (headPart (aesScheme S) 2 s)
-              (frameOf (aesScheme S) s)) in
+              rw q (signature-clears S publicKey message (headPart (schemeOf S) 0 s) (headPart (schemeOf S) 1 s) (headPart (schemeOf S) 2 s)
+              (frameOf (schemeOf S) s)) in
               called work (lengths-right ∙ sym q) (e ∙ cleared-scratch t ∙ work-clears work clear)

@@ -1,12 +1,11 @@
--- The weights in the field of 32 bits. The tests are split so that each is computed within antt's bound. Assumes nothing.
+-- The weights in the field of 32 bits. Assumes nothing.
 use mathlib.Core.List.{List, [], _∷_}
 use Prim.Native.Nat.{ℕ}
 use Rattle.poly.specs.Index.{at}
-use Rattle.poly.specs.Weights.{numerator}
 use Rattle.field.specs.Linear.{combine, orbit}
 use Rattle.field.specs.Ring.{xtime, times}
-use Rattle.field.specs.Wide32.{low32, binary32}
-use Rattle.weights.specs.Weights.{Weights, small, right, all, Passed, passed, join, weighed}
+use Rattle.field.specs.Wide32.{low32, wide32}
+use Rattle.weights.specs.Weights.{Weights, product, right, all, weighed}
 
 unfoldable pub weights32x21 : List ℕ
 weights32x21 =
@@ -14,12 +13,9 @@ weights32x21 =
     ∷ 2798704430 ∷ 1462048435 ∷ 3757413554 ∷ 3082253944 ∷ 3255823475 ∷ 1716053899 ∷ 1989392227 ∷ 1264820172
     ∷ 3245188521 ∷ 4275796852 ∷ 2176239310 ∷ 3666489699 ∷ 1686776176 ∷ []
 
-weights32x21-0 : Passed 32 low32 21 weights32x21 0 21
-unfolding xtime times combine orbit at numerator small right all weights32x21
-weights32x21-0 = passed 32 low32 21 weights32x21 21 0 tt
-
 pub weights32x21-right : Weights 32 low32 21 weights32x21
-weights32x21-right = weighed 32 low32 21 weights32x21 binary32 tt weights32x21-0
+unfolding xtime times combine orbit at product right all weights32x21
+weights32x21-right = weighed 32 low32 21 weights32x21 (wide32 .binary) tt
 
 unfoldable pub weights32x41 : List ℕ
 weights32x41 =
@@ -30,21 +26,6 @@ weights32x41 =
     ∷ 3212324980 ∷ 1438660315 ∷ 3428859833 ∷ 1177738425 ∷ 709894179 ∷ 1482497318 ∷ 4280298992 ∷ 2009060693
     ∷ 2591563791 ∷ []
 
-weights32x41-0 : Passed 32 low32 41 weights32x41 0 14
-unfolding xtime times combine orbit at numerator small right all weights32x41
-weights32x41-0 = passed 32 low32 41 weights32x41 14 0 tt
-
-weights32x41-14 : Passed 32 low32 41 weights32x41 14 28
-unfolding xtime times combine orbit at numerator small right all weights32x41
-weights32x41-14 = passed 32 low32 41 weights32x41 14 14 tt
-
-weights32x41-28 : Passed 32 low32 41 weights32x41 28 41
-unfolding xtime times combine orbit at numerator small right all weights32x41
-weights32x41-28 = passed 32 low32 41 weights32x41 13 28 tt
-
 pub weights32x41-right : Weights 32 low32 41 weights32x41
-weights32x41-right =
-    weighed 32 low32 41 weights32x41 binary32 tt
-    (join 32 low32 41 weights32x41 weights32x41-0
-    (join 32 low32 41 weights32x41 weights32x41-14
-    weights32x41-28))
+unfolding xtime times combine orbit at product right all weights32x41
+weights32x41-right = weighed 32 low32 41 weights32x41 (wide32 .binary) tt

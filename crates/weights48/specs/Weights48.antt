@@ -1,12 +1,11 @@
--- The weights in the field of 48 bits. The tests are split so that each is computed within antt's bound. Assumes nothing.
+-- The weights in the field of 48 bits. Assumes nothing.
 use mathlib.Core.List.{List, [], _∷_}
 use Prim.Native.Nat.{ℕ}
 use Rattle.poly.specs.Index.{at}
-use Rattle.poly.specs.Weights.{numerator}
 use Rattle.field.specs.Linear.{combine, orbit}
 use Rattle.field.specs.Ring.{xtime, times}
-use Rattle.wide48.specs.Wide48.{low48, binary48}
-use Rattle.weights.specs.Weights.{Weights, small, right, all, Passed, passed, join, weighed}
+use Rattle.wide48.specs.Wide48.{low48, wide48}
+use Rattle.weights.specs.Weights.{Weights, product, right, all, weighed}
 
 unfoldable pub weights48x21 : List ℕ
 weights48x21 =
@@ -15,19 +14,9 @@ weights48x21 =
     ∷ 187986482629470 ∷ 46100337836908 ∷ 108419156231245 ∷ 51789971771748 ∷ 209610399868366 ∷ 55155090206282
     ∷ 47541769517423 ∷ 80193871753497 ∷ 263164651783154 ∷ []
 
-weights48x21-0 : Passed 48 low48 21 weights48x21 0 11
-unfolding xtime times combine orbit at numerator small right all weights48x21
-weights48x21-0 = passed 48 low48 21 weights48x21 11 0 tt
-
-weights48x21-11 : Passed 48 low48 21 weights48x21 11 21
-unfolding xtime times combine orbit at numerator small right all weights48x21
-weights48x21-11 = passed 48 low48 21 weights48x21 10 11 tt
-
 pub weights48x21-right : Weights 48 low48 21 weights48x21
-weights48x21-right =
-    weighed 48 low48 21 weights48x21 binary48 tt
-    (join 48 low48 21 weights48x21 weights48x21-0
-    weights48x21-11)
+unfolding xtime times combine orbit at product right all weights48x21
+weights48x21-right = weighed 48 low48 21 weights48x21 (wide48 .binary) tt
 
 unfoldable pub weights48x41 : List ℕ
 weights48x41 =
@@ -39,36 +28,6 @@ weights48x41 =
     ∷ 20849595346657 ∷ 127286151921875 ∷ 6206668308954 ∷ 244538684697678 ∷ 276509507845715 ∷ 161648198334703
     ∷ 7447800643948 ∷ 6906583688720 ∷ 195009061640809 ∷ 90515306009721 ∷ 88179640468036 ∷ []
 
-weights48x41-0 : Passed 48 low48 41 weights48x41 0 7
-unfolding xtime times combine orbit at numerator small right all weights48x41
-weights48x41-0 = passed 48 low48 41 weights48x41 7 0 tt
-
-weights48x41-7 : Passed 48 low48 41 weights48x41 7 14
-unfolding xtime times combine orbit at numerator small right all weights48x41
-weights48x41-7 = passed 48 low48 41 weights48x41 7 7 tt
-
-weights48x41-14 : Passed 48 low48 41 weights48x41 14 21
-unfolding xtime times combine orbit at numerator small right all weights48x41
-weights48x41-14 = passed 48 low48 41 weights48x41 7 14 tt
-
-weights48x41-21 : Passed 48 low48 41 weights48x41 21 28
-unfolding xtime times combine orbit at numerator small right all weights48x41
-weights48x41-21 = passed 48 low48 41 weights48x41 7 21 tt
-
-weights48x41-28 : Passed 48 low48 41 weights48x41 28 35
-unfolding xtime times combine orbit at numerator small right all weights48x41
-weights48x41-28 = passed 48 low48 41 weights48x41 7 28 tt
-
-weights48x41-35 : Passed 48 low48 41 weights48x41 35 41
-unfolding xtime times combine orbit at numerator small right all weights48x41
-weights48x41-35 = passed 48 low48 41 weights48x41 6 35 tt
-
 pub weights48x41-right : Weights 48 low48 41 weights48x41
-weights48x41-right =
-    weighed 48 low48 41 weights48x41 binary48 tt
-    (join 48 low48 41 weights48x41 weights48x41-0
-    (join 48 low48 41 weights48x41 weights48x41-7
-    (join 48 low48 41 weights48x41 weights48x41-14
-    (join 48 low48 41 weights48x41 weights48x41-21
-    (join 48 low48 41 weights48x41 weights48x41-28
-    weights48x41-35)))))
+unfolding xtime times combine orbit at product right all weights48x41
+weights48x41-right = weighed 48 low48 41 weights48x41 (wide48 .binary) tt

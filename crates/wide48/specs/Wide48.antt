@@ -1,26 +1,17 @@
 -- The wide field of 48 bits, and the lift of bytes into it by the smallest root y of y^8 + y^4 + y^3 + y + 1. Assumes nothing.
 use mathlib.Core.Path.{_≡_, refl}
 use mathlib.Core.List.{List, [], _∷_}
-use Prim.Native.Nat.{ℕ, _^_}
-use native.Mathlib.Nat.{suc-ne-zero}
-use lib.Dec.{lit<, leb→le, ltb→lt}
+use Prim.Native.Nat.{ℕ}
 use Rattle.field.specs.Linear.{combine, orbit, basis}
 use Rattle.field.specs.Ring.{xtime, times, mul}
-use Rattle.field.specs.Field.{iterate, onesPower, inverse, IsField, mul-field}
-use Rattle.poly.specs.Field.{BinaryField}
+use Rattle.field.specs.Field.{iterate, onesPower, inverse}
 use Rattle.poly.specs.Poly.{eval}
-use Rattle.field.specs.Wide.{ops, Element, binary-field}
-use Rattle.field.specs.LeastRoot.{IsLeastRoot, least-root}
-use Rattle.field.specs.Fits.{Fits}
-use Rattle.field.specs.Lift.{lift, IsRoot, IsEmbedding, lift-embedding}
-use Rattle.field.specs.Byte.{mul8, field8, modulus8}
+use Rattle.field.specs.Lift.{lift}
+use Rattle.field.specs.WideField.{WideField, wide-laws}
 
 -- "modulo X^48 + X^5 + X^3 + X^2 + 1": the modulus without X^48
 abbrev pub low48 : ℕ
 low48 = 0x2d
-
-abbrev pub mul48 : ℕ → ℕ → ℕ
-mul48 = mul 48 low48
 
 -- undoes a -> a a + a, but for bit 0
 table48 : List ℕ
@@ -35,49 +26,24 @@ table48 =
     ∷ 105553116266510 ∷ 0 ∷ 112358631299918 ∷ 25699813853904 ∷ 223851536138268 ∷ 41989887122240
     ∷ []
 
-pub field48 : IsField 48 mul48
-unfolding xtime times combine orbit basis iterate onesPower inverse table48
-field48 =
-    mul-field 48 low48 table48 tt refl refl
-    (record { positive = refl; powers = refl; frobenius = refl; idempotents = refl; zero-zero = refl })
-
 -- a product by long division
-example48 : mul48 0x123456789abc 0xfedcba987654 ≡ 0xc4b090185804
+example48 : mul 48 low48 0x123456789abc 0xfedcba987654 ≡ 0xc4b090185804
 unfolding xtime times combine orbit
 example48 = refl
 
--- the lift: "byte b lifts to the sum of its bits times powers of y"
+-- the smallest root
 abbrev pub y48 : ℕ
 y48 = 0x293ef1396c8c
 
-abbrev pub lift48 : ℕ → ℕ
-lift48 = lift 8 mul48 y48
+others48 : List ℕ
+others48 = 0x2a061bdf594f ∷ 0x978b70bac25c ∷ 0xba2c847d497d ∷ 0xc306e7e2bdac ∷ 0xc49d473c635c ∷ 0xc7a5adda569e ∷ 0xeea11325368c ∷ []
 
-pub binary48 : BinaryField (ops 48 low48) (Element 48)
-binary48 = binary-field 48 low48 field48 (lit< tt)
-
--- "of the eight wide roots y of y^8 + y^4 + y^3 + y + 1 take the smallest as a number"
-pub least48 : IsLeastRoot 48 low48 modulus8 y48
-unfolding xtime times combine orbit eval
-least48 =
-    least-root 48 low48 modulus8 binary48 y48
-    (0x2a061bdf594f ∷ 0x978b70bac25c ∷ 0xba2c847d497d ∷ 0xc306e7e2bdac ∷ 0xc49d473c635c ∷ 0xc7a5adda569e ∷ 0xeea11325368c ∷ [])
-    refl (λ z. suc-ne-zero 0 (z .0)) tt tt tt
-
--- the powers of y, which the lifts are combined from
 unfoldable pub powers48 : List ℕ
 powers48 = 1 ∷ 45350311783564 ∷ 204700364130685 ∷ 50155470555071 ∷ 219514400298654 ∷ 202657554119817 ∷ 208594291365772 ∷ 44256213475364 ∷ []
 
-pub lift48-powers : (b : ℕ) → combine powers48 b ≡ lift48 b
-unfolding xtime times combine orbit lift powers48
-lift48-powers b = refl
-
-root48 : IsRoot 8 mul8 48 mul48 y48
-unfolding xtime times combine orbit basis lift
-root48 = record { powers = refl; root = refl; one-narrow = refl; one-wide = refl; one = refl }
-
-pub embedding48 : IsEmbedding 8 mul8 48 mul48 lift48
-embedding48 = lift-embedding 8 mul8 48 mul48 field8 (field48 .ring) y48 root48
-
-pub fits48 : Fits 48 low48
-fits48 = record { bits = leb→le 48 63 tt; small = ltb→lt low48 (2 ^ 48) tt }
+pub wide48 : WideField 6 low48 y48 powers48
+unfolding xtime times combine orbit basis iterate onesPower inverse lift eval table48 others48 powers48
+wide48 =
+    wide-laws 6 low48 y48 table48 others48 powers48
+    (record { positive = refl; powers = refl; frobenius = refl; idempotents = refl; zero-zero = refl })
+    (record { bits = tt; small = tt; one = tt; steps = refl; seven = refl; order = tt; roots = tt; root = refl; is-orbit = refl })

@@ -5,8 +5,9 @@ use native.Mathlib.Omega.{arith}
 use Rattle.banquet.specs.declared.Shape.{Shape}
 use Rattle.banquet.specs.Shape.{openingLength}
 use Rattle.sets.specs.Valid.{Valid}
-use Rattle.sets.specs.Bounds.{by-ten, by-points, all-sboxes}
+use Rattle.sets.specs.Bounds.{by-points}
+use Rattle.write_opening.specs.Written.{middleLength}
 
 pub whole : {S : Shape} → Valid S → openingLength S
-    ≡ 33 + S .parties * 48 + (216 + 32 * S .wide) + (S .parties * S .wide + 2 * (S .parties * (S .m1 * S .wide))) + 1 + S .depth * 16
-whole {S} v = omega (arith, all-sboxes v, by-ten v (S .wide), by-points v (S .wide))
+    ≡ 33 + S .parties * 48 + middleLength S + (S .parties * S .wide + 2 * (S .parties * (S .m1 * S .wide))) + 1 + S .depth * 16
+whole {S} v = omega (arith, by-points v (S .wide))

@@ -9,10 +9,10 @@ use Rattle.slices.specs.Lists.{rows, part}
 use Rattle.slices.specs.Tab.{rows-cong, row-of-rows}
 use Rattle.slices.specs.Numbers.{bytesOf, numbers, length-bytesOf, length-numbers}
 use Rattle.slices.specs.Layout.{total}
-use Rattle.circuit.specs.Sizes.{length-outputShare}
 use Rattle.banquet.specs.declared.Shape.{Shape}
-use Rattle.banquet.specs.Sets.{aesScheme}
+use Rattle.banquet.specs.Sets.{schemeOf}
 use Rattle.banquet.specs.Execution.{Committed, Challenge, outputShare, openedC, openedA, openedB}
+use Rattle.sets.specs.Circuit.{output-long}
 use Rattle.sets.specs.Bounds.{rowSizes}
 use Rattle.forms.specs.Party.{shareRow}
 use Rattle.columns.specs.Column.{columnOf}
@@ -51,28 +51,24 @@ module _ (S : Shape) (x : Committed) (d : Challenge) (t : ℕ → List ℕ) wher
   open Shape S using (parties, wide, m1)
 
   abbrev pub shares : ℕ → List ℕ
-  shares i = shareRow (aesScheme S) x d i (t i)
+  shares i = shareRow (schemeOf S) x d i (t i)
 
   abbrev pub output : ℕ → List ℕ
-  output i = outputShare (aesScheme S) x i (t i)
+  output i = outputShare (schemeOf S) x i (t i)
 
   abbrev pub shareC : ℕ → List ℕ
-  shareC i = bytesOf wide (openedC (aesScheme S) x i (t i) d)
+  shareC i = bytesOf wide (openedC (schemeOf S) x i (t i) d)
 
   abbrev pub shareA : ℕ → List ℕ
-  shareA i = numbers wide m1 (openedA (aesScheme S) x i (t i) d)
+  shareA i = numbers wide m1 (openedA (schemeOf S) x i (t i) d)
 
   abbrev pub shareB : ℕ → List ℕ
-  shareB i = numbers wide m1 (openedB (aesScheme S) x i (t i) d)
-
-  length-output : (i : ℕ) → length (output i) ≡ 16
-  unfolding outputShare
-  length-output i = length-outputShare _
+  shareB i = numbers wide m1 (openedB (schemeOf S) x i (t i) d)
 
   shares-are : (i : ℕ) → Four 16 wide (m1 * wide) (output i) (shareC i) (shareA i) (shareB i) (shares i)
   unfolding shareRow
   shares-are i =
-      four 16 wide (m1 * wide) (output i) (shareC i) (shareA i) (shareB i) (length-output i) (length-bytesOf wide _) (length-numbers wide m1 _)
+      four 16 wide (m1 * wide) (output i) (shareC i) (shareA i) (shareB i) (output-long S x i (t i)) (length-bytesOf wide _) (length-numbers wide m1 _)
       (length-numbers wide m1 _)
 
   column-is : (at len : ℕ) {f : ℕ → List ℕ} → ((i : ℕ) → part at len (shares i) ≡ f i)

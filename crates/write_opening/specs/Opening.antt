@@ -10,7 +10,7 @@ use Rattle.slices.specs.Numbers.{bytesOf}
 use Rattle.slices.specs.Layout.{layout}
 use Rattle.shake.specs.Shake128.{shake128}
 use Rattle.banquet.specs.declared.Shape.{Shape}
-use Rattle.banquet.specs.Sets.{aesScheme}
+use Rattle.banquet.specs.Sets.{schemeOf}
 use Rattle.banquet.specs.Hash.{commitment, tape}
 use Rattle.banquet.specs.Tree.{nodeSeeds, leaves, siblingSeeds}
 use Rattle.banquet.specs.Key.{frontOf}
@@ -26,7 +26,7 @@ use Rattle.write_opening.specs.Columns.{shares, shareC, shareA, shareB, 
 
 -- the seeds as the tree gives them
 pub leaf-seeds : {S : Shape} → Valid S → (salt root : List ℕ) (e : ℕ) {seeds : List ℕ} → length root ≡ 16
-    → seeds ≡ nodeSeeds (leaves shake128 salt e (S .depth) 0 root) → (i : ℕ) → i < S .parties → row 16 i seeds ≡ seedOf (aesScheme S) salt root e i
+    → seeds ≡ nodeSeeds (leaves shake128 salt e (S .depth) 0 root) → (i : ℕ) → i < S .parties → row 16 i seeds ≡ seedOf (schemeOf S) salt root e i
 leaf-seeds {S} v salt root e h w i l = ap (row 16 i) w ∙ row-leaf salt e (S .depth) 0 root h i (omega (arith, v .leaves))
 
 -- the parts, one after the other
@@ -41,67 +41,67 @@ module _ (S : Shape) (key publicKey salt root firstBytes : List ℕ) (e R : ℕ)
 
   -- the parties' tapes, from the seeds in rows
   abbrev tapes : ℕ → List ℕ
-  tapes i = tape (aesScheme S) salt e i (row 16 i seeds)
+  tapes i = tape (schemeOf S) salt e i (row 16 i seeds)
 
   -- the challenges, with the product offsets between them
   abbrev challenges : List ℕ → Challenge
-  challenges offsets = challenge (aesScheme S) firstBytes offsets R
+  challenges offsets = challenge (schemeOf S) firstBytes offsets R
 
   -- what stands in the rows of seeds, in the offsets and in the rows of shares
   pub record Made (front keyOffset inverseOffsets offsets s : List ℕ) : Type 0 where
-    pub seeds-are : (i : ℕ) → i < parties → row 16 i seeds ≡ seedOf (aesScheme S) salt root e i
-    pub key-is : keyOffset ≡ ownCommitted (aesScheme S) tapes front key .keyOffset
-    pub inverses-are : inverseOffsets ≡ ownCommitted (aesScheme S) tapes front key .inverseOffsets
-    pub offsets-are : offsets ≡ productOffsets (aesScheme S) tapes front key firstBytes
-    pub rows-are : s ≡ rows (λ i. shareRow (aesScheme S) (committed front keyOffset inverseOffsets) (challenges offsets) i (tapes i)) parties
+    pub seeds-are : (i : ℕ) → i < parties → row 16 i seeds ≡ seedOf (schemeOf S) salt root e i
+    pub key-is : keyOffset ≡ ownCommitted (schemeOf S) tapes front key .keyOffset
+    pub inverses-are : inverseOffsets ≡ ownCommitted (schemeOf S) tapes front key .inverseOffsets
+    pub offsets-are : offsets ≡ productOffsets (schemeOf S) tapes front key firstBytes
+    pub rows-are : s ≡ rows (λ i. shareRow (schemeOf S) (committed front keyOffset inverseOffsets) (challenges offsets) i (tapes i)) parties
 
-  module _ {k y o s : List ℕ} (m : Made (frontOf (aesScheme S) publicKey) k y o s) (hidden : ℕ) where
+  module _ {k y o s : List ℕ} (m : Made (frontOf (schemeOf S) publicKey) k y o s) (hidden : ℕ) where
     abbrev t : ℕ → List ℕ
-    t = tapeOf (aesScheme S) salt root e
+    t = tapeOf (schemeOf S) salt root e
 
     abbrev f : List ℕ
-    f = frontOf (aesScheme S) publicKey
+    f = frontOf (schemeOf S) publicKey
 
     abbrev x : Committed
-    x = ownCommitted (aesScheme S) t f key
+    x = ownCommitted (schemeOf S) t f key
 
     abbrev off : List ℕ
-    off = productOffsets (aesScheme S) t f key firstBytes
+    off = productOffsets (schemeOf S) t f key firstBytes
 
     abbrev d : Challenge
     d = challenges off
 
     same : (i : ℕ) → i < parties → tapes i ≡ t i
-    same i l = ap (tape (aesScheme S) salt e i) (m .seeds-are i l)
+    same i l = ap (tape (schemeOf S) salt e i) (m .seeds-are i l)
 
     k-is : k ≡ x .keyOffset
-    k-is = m .key-is ∙ key-cong (aesScheme S) same f key
+    k-is = m .key-is ∙ key-cong (schemeOf S) same f key
 
     y-is : y ≡ x .inverseOffsets
-    y-is = m .inverses-are ∙ inverses-cong (aesScheme S) same f key
+    y-is = m .inverses-are ∙ inverses-cong (schemeOf S) same f key
 
     o-is : o ≡ off
-    o-is = m .offsets-are ∙ offsets-cong (aesScheme S) same f key firstBytes
+    o-is = m .offsets-are ∙ offsets-cong (schemeOf S) same f key firstBytes
 
     s-is : s ≡ rows (shares S x d t) parties
     s-is =
         m .rows-are
         ∙ rows-cong parties
         (λ i l.
-        ap₂ (λ k y. shareRow (aesScheme S) (committed f k y) (challenges o) i (tapes i)) k-is y-is
-        ∙ ap₂ (λ o t. shareRow (aesScheme S) x (challenges o) i t) o-is (same i l))
+        ap₂ (λ k y. shareRow (schemeOf S) (committed f k y) (challenges o) i (tapes i)) k-is y-is
+        ∙ ap₂ (λ o t. shareRow (schemeOf S) x (challenges o) i t) o-is (same i l))
 
-    commitments-are : rows (λ i. commitment (aesScheme S) salt e i (row 16 i seeds)) parties
-        ≡ rows (λ i. commitment (aesScheme S) salt e i (seedOf (aesScheme S) salt root e i)) parties
-    commitments-are = rows-cong parties (λ i l. ap (commitment (aesScheme S) salt e i) (m .seeds-are i l))
+    commitments-are : rows (λ i. commitment (schemeOf S) salt e i (row 16 i seeds)) parties
+        ≡ rows (λ i. commitment (schemeOf S) salt e i (seedOf (schemeOf S) salt root e i)) parties
+    commitments-are = rows-cong parties (λ i l. ap (commitment (schemeOf S) salt e i) (m .seeds-are i l))
 
-    is-opening : written S salt e root hidden seeds k y firstBytes o R s ≡ opening (aesScheme S) key publicKey salt root firstBytes e R hidden
+    is-opening : written S salt e root hidden seeds k y firstBytes o R s ≡ opening (schemeOf S) key publicKey salt root firstBytes e R hidden
     unfolding written opening transcript
     is-opening =
         assembled salt firstBytes (bytesOf wide R) (rows (shareC S x d t) parties) (rows (shareA S x d t) parties) (rows (shareB S x d t) parties)
         (hidden ∷ siblingSeeds shake128 salt e depth 0 root hidden) e commitments-are
         (ap (outputs S) s-is ∙ outputs-are S x d t) k-is y-is o-is (ap (opened S) s-is ∙ opened-are S x d t)
 
-  pub written-opening : {front k y o s : List ℕ} → front ≡ frontOf (aesScheme S) publicKey → Made front k y o s → (hidden : ℕ)
-      → written S salt e root hidden seeds k y firstBytes o R s ≡ opening (aesScheme S) key publicKey salt root firstBytes e R hidden
+  pub written-opening : {front k y o s : List ℕ} → front ≡ frontOf (schemeOf S) publicKey → Made front k y o s → (hidden : ℕ)
+      → written S salt e root hidden seeds k y firstBytes o R s ≡ opening (schemeOf S) key publicKey salt root firstBytes e R hidden
   written-opening {front} {k} {y} {o} {s} h m hidden = is-opening (subst (λ f. Made f k y o s) h m) hidden

@@ -5,7 +5,8 @@ use Rattle.slices.specs.Lists.{rows, row}
 use Rattle.slices.specs.Layout.{total}
 use Rattle.slices.specs.Numbers.{bytesOf}
 use Rattle.banquet.specs.declared.Shape.{Shape}
-use Rattle.banquet.specs.Sets.{aesScheme}
+use Rattle.banquet.specs.Shape.{sboxes}
+use Rattle.banquet.specs.Sets.{schemeOf}
 use Rattle.banquet.specs.Hash.{commitment}
 use Rattle.banquet.specs.Tree.{siblingSeeds}
 use Rattle.columns.specs.Column.{columnOf}
@@ -16,9 +17,12 @@ module _ (S : Shape) where
 
   -- "salt 32, e 1, commitments 512"
   abbrev pub head : List ℕ → ℕ → List ℕ → List ℕ
-  head salt e seeds = salt ++ e ∷ rows (λ i. commitment (aesScheme S) salt e i (row 16 i seeds)) parties
+  head salt e seeds = salt ++ e ∷ rows (λ i. commitment (schemeOf S) salt e i (row 16 i seeds)) parties
 
-  -- "key offset 16, inverse offsets 200, r 40, product offsets 84, R 4"
+  -- "key offset 16, inverse offsets 200, r 40, product offsets 84, R 4": their bytes, and they themselves
+  abbrev pub middleLength : ℕ
+  middleLength = 16 + sboxes S + m1 * wide + 22 * wide
+
   abbrev pub middle : List ℕ → List ℕ → List ℕ → List ℕ → ℕ → List ℕ
   middle keyOffset inverseOffsets first productOffsets second =
       keyOffset ++ (inverseOffsets ++ (first ++ (productOffsets ++ bytesOf wide second)))
@@ -37,4 +41,4 @@ module _ (S : Shape) where
   written salt e root hidden seeds keyOffset inverseOffsets first productOffsets second s =
       head salt e seeds
       ++ (outputs s ++ (middle keyOffset inverseOffsets first productOffsets second
-      ++ (opened s ++ hidden ∷ siblingSeeds (aesScheme S .hash) salt e depth 0 root hidden)))
+      ++ (opened s ++ hidden ∷ siblingSeeds (schemeOf S .hash) salt e depth 0 root hidden)))

@@ -6,10 +6,10 @@ ghost use Prim.Native.Nat.{_+_, _*_, _<_, _≤_};
 ghost use lib.ListN.{length};
 ghost use Rattle.slices.specs.Lists.{put};
 ghost use Rattle.slices.specs.Layout.{total};
-ghost use Rattle.banquet.specs.Shape.{firstChallengeLength, productPoints, openingLength};
+ghost use Rattle.banquet.specs.Shape.{sboxes, firstChallengeLength, productPoints, openingLength};
 ghost use Rattle.sets.specs.Valid.{Valid};
 ghost use Rattle.sets.specs.Bounds.{rowSizes};
-ghost use Rattle.write_opening.specs.Written.{head, outputs, middle, opened, written};
+ghost use Rattle.write_opening.specs.Written.{middleLength, head, outputs, middle, opened, written};
 
 // "salt 32, e 1, commitments 512, output shares 256"; the answer is where these end.
 fn write_head(shape: Shape, salt: &[u8], e: u8, seeds: &[u8], rows: &[u8], out: &mut [u8]) -> usize
@@ -43,16 +43,16 @@ fn write_middle(
     at: usize,
     out: &mut [u8],
 ) -> usize
-    requires { ⌜ Valid shape × (length (now key) ≡ 16) × (length (now inverse) ≡ 200)
+    requires { ⌜ Valid shape × (length (now key) ≡ 16) × (length (now inverse) ≡ sboxes shape)
         × (length (now first) ≡ firstChallengeLength shape) × (length (now product) ≡ productPoints shape * shape .wide)
-        × (at + (216 + 32 * shape .wide) ≤ length (now out)) ⌝ }
+        × (at + middleLength shape ≤ length (now out)) ⌝ }
     ensures { λ r. ⌜ (now (out .exit) ≡ put (now (out .entry)) at
         (middle shape (now (key .entry)) (now (inverse .entry)) (now (first .entry)) (now (product .entry)) second))
         × (r ≡ at + length (middle shape (now (key .entry)) (now (inverse .entry)) (now (first .entry)) (now (product .entry)) second))
-        × (r ≡ at + (216 + 32 * shape .wide)) ⌝ }
+        × (r ≡ at + middleLength shape) ⌝ }
 {
     let i = at + 16;
-    let f = i + 200;
+    let f = i + inverse.len();
     let p = f + first.len();
     let q = p + product.len();
     slices::copy_at(out, at, key);
@@ -101,7 +101,7 @@ pub fn write(
     out: &mut [u8],
 )
     requires { ⌜ Valid shape × (length (now salt) ≡ 32) × (length (now root) ≡ 16) × (hidden < 256)
-        × (shape .parties * 16 ≤ length (now seeds)) × (length (now key) ≡ 16) × (length (now inverse) ≡ 200)
+        × (shape .parties * 16 ≤ length (now seeds)) × (length (now key) ≡ 16) × (length (now inverse) ≡ sboxes shape)
         × (length (now first) ≡ firstChallengeLength shape) × (length (now product) ≡ productPoints shape * shape .wide)
         × (length (now rows) ≡ shape .parties * total (rowSizes shape)) × (length (now out) ≡ openingLength shape) ⌝ }
     ensures { λ _. ⌜ now (out .exit)

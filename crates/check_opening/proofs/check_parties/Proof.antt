@@ -8,14 +8,14 @@ use borrow.Rule.Slice.PartMut.{putMid, same-len-mid}
 use Rattle.slices.specs.Layout.{field}
 use Rattle.slices.proofs.Put.{front-long}
 use Rattle.shake.specs.Shake128.{shake128}
-use Rattle.banquet.specs.Sets.{aesScheme}
+use Rattle.banquet.specs.Sets.{schemeOf}
 use Rattle.banquet.specs.Tree.{nodeSeeds, shownLeaves}
 use Rattle.banquet.specs.Opening.{saltOf}
-use Rattle.sets.specs.Bounds.{leaves-most}
+use Rattle.sets.specs.Bounds.{leaves-most, rows-most}
 use Rattle.stated.proofs.Laws.{transcript-fits, field-size}
 use Rattle.scratch.specs.Scratch.{Scratch, scratch-then}
 use Rattle.scratch.proofs.Laws.{scratch-front}
-use Rattle.check_opening.proofs.Seeds.{rows-fit, commitment-refused, commitments-passed}
+use Rattle.check_opening.proofs.Seeds.{commitment-refused, commitments-passed}
 use Rattle.check_opening.proofs.check_parties.Statement.{statement}
 use Rattle.check_opening.proofs.check_parties.Tie as tie
 
@@ -38,12 +38,12 @@ module _ (l : tie.After-leaf-bytes) where
   zeros = replicate 2048 0
 
   most-bytes : l .leaf-bytes .result ≤ 2048
-  most-bytes = omega (arith, leaves-most (start sized .pre .0 .valid), l .leaf-bytes .ensures)
+  most-bytes = omega (arith, leaves-most (start sized .pre .0 .valid), l .leaf-bytes .ensures .0)
 
   part-long : length (take (l .leaf-bytes .result - 0) zeros) ≡ 16 * 2 ^ (start sized .args .shape .depth)
   part-long =
       let room : l .leaf-bytes .result ≤ length zeros = omega (arith, most-bytes) in
-      front-long (l .leaf-bytes .result) zeros room ∙ l .leaf-bytes .ensures
+      front-long (l .leaf-bytes .result) zeros room ∙ l .leaf-bytes .ensures .0
 
 expand-shown-requires : tie.Need-expand-shown-requires
 expand-shown-requires c κs =
@@ -72,7 +72,7 @@ module _ (x : tie.After-expand-shown) where
   leaves = x .expand-shown .last .1 .1 .1 .1 .1 .1 .0
 
   leaves-are : leaves
-      ≡ nodeSeeds (shownLeaves shake128 (saltOf (aesScheme (s .args .shape)) (s .args .transcript .now)) (s .args .e) (s .args .shape .depth) 0 (s .args .siblings .now) (s .args .hidden))
+      ≡ nodeSeeds (shownLeaves shake128 (saltOf (schemeOf (s .args .shape)) (s .args .transcript .now)) (s .args .e) (s .args .shape .depth) 0 (s .args .siblings .now) (s .args .hidden))
   leaves-are =
       x .expand-shown .ensures
       ∙ ap (λ l. nodeSeeds (shownLeaves shake128 l (s .args .e) (s .args .shape .depth) 0 (s .args .siblings .now) (s .args .hidden)))
@@ -139,7 +139,7 @@ module _ (r : tie.After-row-length) where
 
   -- there is room for all of them, twice
   most : n committed * r .row-length .result ≤ 18176
-  most = rows-fit (s (shown committed) .pre .0 .valid) (r .row-length .ensures)
+  most = rows-most (s (shown committed) .pre .0 .valid) (r .row-length .ensures .1)
 
   fits : 2 * (n committed * r .row-length .result) ≤ length (work1 committed)
   fits = omega (arith, most, scratch1 committed .long, s (shown committed) .pre .2)
@@ -151,7 +151,7 @@ check-rows-requires c κs =
       s x .pre .0,
       room x,
       front-long (2 * (s x .args .shape .parties * r .row-length .result)) (work1 (committed r)) (fits r)
-          ∙ ap (λ k. 2 * (s x .args .shape .parties * k)) (r .row-length .ensures),
+          ∙ ap (λ k. 2 * (s x .args .shape .parties * k)) (r .row-length .ensures .0),
     )
 
 module _ (k : tie.After-check-rows) where

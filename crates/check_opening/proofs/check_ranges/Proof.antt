@@ -4,7 +4,7 @@ use native.Mathlib.Omega.{arith}
 use lib.ListN.{getD}
 use borrow.Author.Needs.{needs}
 use Rattle.slices.specs.Bytes.{bytes-of}
-use Rattle.banquet.specs.Sets.{aesScheme}
+use Rattle.banquet.specs.Sets.{schemeOf}
 use Rattle.banquet.specs.Opening.{executionOf}
 use Rattle.check_opening.proofs.Ranges.{
   execution-is,
@@ -16,13 +16,18 @@ use Rattle.check_opening.proofs.Ranges.{
 use Rattle.check_opening.proofs.check_ranges.Statement.{statement}
 use Rattle.check_opening.proofs.check_ranges.Tie as tie
 
+-- ---- earlier moments
+
+abbrev struct-known-before-check-parties : tie.After-check-parties → tie.After-struct-known
+struct-known-before-check-parties c = c .before .before .before .before .before .before .before
+
 -- ---- the execution, which is a byte
 
 module _ (k : tie.After-struct-known) where
   abbrev start : tie.Start
   start = k .before .before .before .before .before .before
 
-  numbered : getD (start .args .transcript .now) 32 0 ≡ executionOf (aesScheme (start .args .shape)) (start .args .transcript .now)
+  numbered : getD (start .args .transcript .now) 32 0 ≡ executionOf (schemeOf (start .args .shape)) (start .args .transcript .now)
   numbered = execution-is (start .args .shape) (start .args .transcript .now) (omega (arith, start .pre .2))
 
 returns : tie.Need-returns
@@ -69,7 +74,7 @@ check-parties-requires c κs =
 clear-requires : tie.Need-clear-requires
 clear-requires c κs =
     let p = c .before .before .before in
-    let s = start (p .before .before .before .before .before .before .before) in
+    let s = start (struct-known-before-check-parties p) in
     omega (arith, p .check-parties .ensures .1 .long, s .pre .4)
 
 returns-4 : tie.Need-returns-4

@@ -1,16 +1,16 @@
 -- `check_signature::absorb_executions` meets its contract: after e turns the parts of e executions are absorbed. Assumes nothing.
 use mathlib.Core.Path.{_≡_, sym, _∙_}
 use Prim.Native.Nat.{_+_, _*_, _-_, _≤_, zero-le}
-use native.Mathlib.Nat.{le-add-right}
+use native.Mathlib.Nat.{le-trans, le-antisymm, le-add-right}
 use native.Mathlib.Omega.{arith}
 use lib.Dec.{lit≤}
 use lib.ListN.{length}
 use borrow.Author.Needs.{needs}
 use Rattle.slices.specs.Layout.{total}
+use Rattle.slices.proofs.Counts.{in-word, begins, next-most}
 use Rattle.slices.proofs.Rows.{row-cut}
-use Rattle.sets.specs.Bounds.{rowSizes, by-ten}
+use Rattle.sets.specs.Bounds.{rowSizes, columns-most}
 use Rattle.verify_answers.specs.Head.{salt-is}
-use Rattle.check_signature.proofs.Counts.{in-word, part-in-word, next-in-word, next-most, all-turns}
 use Rattle.check_signature.proofs.Execution.{first-room, first-most, second-room, third-room, Absorbed, absorbed-none, given, turn}
 use Rattle.check_signature.proofs.absorb_executions.Statement.{statement}
 use Rattle.check_signature.proofs.absorb_executions.Tie as tie
@@ -23,6 +23,14 @@ Inv-loop shape public s firsts seconds thirds commitments₀ rows₀ n count t�
 abbrev μ-loop : tie.MeasureT-loop
 μ-loop shape public s firsts seconds thirds commitments₀ rows₀ n count t₀ e₀ commitments rows t e = count - e
 
+-- ---- earlier moments
+
+abbrev start-before-struct-known : tie.After-struct-known Inv-loop μ-loop → tie.Start Inv-loop μ-loop
+start-before-struct-known c = c .before .before .before .before .before .before .before .before
+
+abbrev turn-before-absorb-frame-arg4 : tie.After-absorb-frame-arg4 Inv-loop μ-loop → tie.In-loop Inv-loop μ-loop
+turn-before-absorb-frame-arg4 c = c .before .before .before .before .before .before .before
+
 abbrev start : tie.At-loop Inv-loop μ-loop → tie.Start Inv-loop μ-loop
 start k = (k .before .before .before .before .before .before .before .before .before)
 
@@ -31,16 +39,16 @@ salt-room s = omega (arith, s .pre .0 .file-sized .size)
 
 mul-n : tie.Need-mul-n Inv-loop μ-loop
 mul-n c =
-    let s = (c .before .before .before .before .before .before .before .before) in
-    omega (arith, by-ten (s .pre .0 .valid) (s .args .shape .wide), s .pre .0 .valid .wide-most)
+    let s = start-before-struct-known c in
+    omega (arith, columns-most (s .pre .0 .valid))
 
 loop-holds : tie.Need-loop-holds Inv-loop μ-loop
 loop-holds c =
-    let s = (c .before .before .before .before .before .before .before .before) in
+    let s = start-before-struct-known c in
     let a = s .args in
     (zero-le, s .pre .2, s .pre .3, absorbed-none (a .shape) (a .public .now) (a .s .now) (a .start .first) (a .start .third))
 
-most : (i : tie.In-loop Inv-loop μ-loop) → i .before .loop .e * (start (i .before) .args .shape .m1 * start (i .before) .args .shape .wide) + start (i .before) .args .shape .m1 * start (i .before) .args .shape .wide ≤ 15360
+most : (i : tie.In-loop Inv-loop μ-loop) → i .before .loop .e * (start (i .before) .args .shape .m1 * start (i .before) .args .shape .wide) + start (i .before) .args .shape .m1 * start (i .before) .args .shape .wide ≤ 2460
 most i = first-most (start (i .before) .pre .0) (start (i .before) .pre .1) (i .loop-test .taken)
 
 hidden-requires : tie.Need-hidden-requires Inv-loop μ-loop
@@ -54,7 +62,7 @@ second-requires c κs = let i = (c .before .before .before) in let p = start (i 
 
 absorb-frame-requires : tie.Need-absorb-frame-requires Inv-loop μ-loop
 absorb-frame-requires c κs =
-    let i = (c .before .before .before .before .before .before .before) in
+    let i = turn-before-absorb-frame-arg4 c in
     let k = i .before in
     let a = start k .args in
     let p = start k .pre in (
@@ -66,13 +74,13 @@ absorb-frame-requires c κs =
 
 add-e : tie.Need-add-e Inv-loop μ-loop
 add-e c =
-    let i = (c .before .before .before .before .before .before .before .before .before .before .before .before) in
-    next-in-word (i .loop-test .taken) (start (i .before) .pre .0 .valid .brief)
+    let i = (turn-before-absorb-frame-arg4 (c .before .before .before .before .before)) in
+    in-word (next-most (i .loop-test .taken)) (le-trans (start (i .before) .pre .0 .valid .brief) (lit≤ tt))
 
 loop-again : tie.Need-loop-again Inv-loop μ-loop
 loop-again c =
     let x = (c .before .before .before .before) in
-    let i = (x .before .before .before .before .before .before .before .before) in
+    let i = (turn-before-absorb-frame-arg4 (x .before)) in
     let k = i .before in
     let a = start k .args in
     let p = start k .pre in
@@ -88,13 +96,13 @@ loop-again c =
 returns : tie.Need-returns Inv-loop μ-loop
 returns c =
     let k = c .before in
-    let e : k .loop .e ≡ start k .args .shape .executions = all-turns (k .loop .inv .0) (c .loop-test .left) in
+    let e : k .loop .e ≡ start k .args .shape .executions = le-antisymm (k .loop .inv .0) (c .loop-test .left) in
     (rw e at (k .loop .inv .3 .first), rw e at (k .loop .inv .3 .third))
 
 pub absorb-executions-spec : {M : Type 1} → statement M
 absorb-executions-spec =
     tie.close
-    (tie.spec Inv-loop μ-loop mul-n loop-holds (λ c. part-in-word _ (most c) (lit≤ tt)) (λ c. in-word (most c) (lit≤ tt)) (λ c. lit≤ tt) (λ c. lit≤ tt)
+    (tie.spec Inv-loop μ-loop mul-n loop-holds (λ c. in-word (begins _ (most c)) (lit≤ tt)) (λ c. in-word (most c) (lit≤ tt)) (λ c. lit≤ tt) (λ c. lit≤ tt)
     (λ c. salt-room (start (c .before))) (λ c. search needs) hidden-requires (λ c. le-add-right _ _) (λ c. le-add-right _ _) part-absorb-frame-end-2 second-requires
     (λ c κs. start (c .before .before .before .before .before) .pre .0 .valid) absorb-frame-requires add-e (λ c. search needs) loop-again
     (λ c. c .before .loop .inv .1 ∙ sym (start (c .before) .pre .2)) (λ c. c .before .loop .inv .2 ∙ sym (start (c .before) .pre .3)) returns)

@@ -27,7 +27,7 @@ returns-3 c =
     let s = (k .before .before .before .before .before .before .before) in
     let a = s .args in
     file-refused (s .pre) (a .public .now) (a .message .now) (a .s .now) (a .work .now) ((k .before .before) .if1 .left) ((k .before) .if2 .left)
-    (λ e. c .if3 .taken (e ∙ sym (k .signature-length .ensures)))
+    (λ e. c .if3 .taken (e ∙ sym (k .signature-length .ensures .0)))
 
 returns-4 : tie.Need-returns-4
 returns-4 c =
@@ -35,7 +35,7 @@ returns-4 c =
     let s = (k .before .before .before .before .before .before .before .before) in
     let a = s .args in
     work-refused (s .pre) (a .public .now) (a .message .now) (a .s .now) (a .work .now) ((k .before .before .before) .if1 .left) ((k .before .before) .if2 .left)
-    (k .if3 .left ∙ (k .before) .signature-length .ensures) (c .if4 .taken)
+    (k .if3 .left ∙ (k .before) .signature-length .ensures .0) (c .if4 .taken)
 
 check-products-requires : tie.Need-check-products-requires
 check-products-requires c κs =
@@ -44,7 +44,7 @@ check-products-requires c κs =
         valid = s .pre;
         public-sized = record { size = (c .before .before .before .before .before) .if1 .left ∙ sym (omega (arith, s .pre .plaintext)); bytes = bytes-of ((c .before .before .before .before .before .before .before .before .before) .shared-slice-known .given) };
         file-sized = record {
-          size = (c .before .before) .if3 .left ∙ (c .before .before .before) .signature-length .ensures;
+          size = (c .before .before) .if3 .left ∙ (c .before .before .before) .signature-length .ensures .0;
           bytes = bytes-of ((c .before .before .before .before .before .before .before) .shared-slice-known3 .given);
         };
       },
@@ -57,7 +57,7 @@ returns-5 c =
     let a = s .args in
     let x = (c .before .before .before .before .before .before) .check-products .ensures in
     checked (s .pre) (a .public .now) (a .message .now) (a .s .now) (a .work .now) ((c .before .before .before .before .before .before .before .before .before .before .before .before) .if1 .left) ((c .before .before .before .before .before .before .before .before .before .before .before) .if2 .left)
-    ((c .before .before .before .before .before .before .before .before .before) .if3 .left ∙ (c .before .before .before .before .before .before .before .before .before .before) .signature-length .ensures) ((c .before .before .before .before .before .before .before .before) .if4 .left) (x .0) (x .1) ((c .before .before) .clear .ensures)
+    ((c .before .before .before .before .before .before .before .before .before) .if3 .left ∙ (c .before .before .before .before .before .before .before .before .before .before) .signature-length .ensures .0) ((c .before .before .before .before .before .before .before .before) .if4 .left) (x .0) (x .1) ((c .before .before) .clear .ensures)
 
 pub check-spec : {M : Type 1} → statement M
 check-spec =

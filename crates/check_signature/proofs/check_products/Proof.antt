@@ -1,32 +1,35 @@
 -- `check_signature::check_products` meets its contract: number 15, then the hashes; only the front of the work slice is written. Assumes nothing.
-use mathlib.Core.Path.{_≡_, refl, sym, ap, _∙_}
+use mathlib.Core.Path.{_≡_, refl, ap, _∙_}
 use mathlib.Core.List.{List}
 use Prim.Native.Nat.{ℕ, _*_, _≤_, zero-le}
 use native.Mathlib.Nat.{le-trans, mul-le-mul-right}
 use lib.Dec.{lit≤}
 use lib.ListN.{length, replicate}
 use borrow.Author.Needs.{needs}
-use Rattle.slices.specs.Layout.{total}
+use Rattle.slices.proofs.Counts.{in-word}
 use Rattle.slices.proofs.Put.{front-long}
-use Rattle.banquet.specs.declared.Shape.{Shape}
 use Rattle.banquet.specs.Shape.{signatureLength}
 use Rattle.sets.specs.Valid.{Valid}
-use Rattle.sets.specs.Bounds.{rowSizes, rows-most}
+use Rattle.sets.specs.Bounds.{rows-most}
 use Rattle.scratch.proofs.Laws.{scratch-front}
-use Rattle.banquet.specs.Sets.{aesScheme}
+use Rattle.banquet.specs.Sets.{schemeOf}
 use Rattle.banquet.specs.Signature.{headPart, frameOf}
 use Rattle.verify_answers.specs.Answers.{product-refused, products-hold}
-use Rattle.check_signature.proofs.Counts.{in-word}
 use Rattle.check_signature.proofs.Hashes.{products-right}
 use Rattle.check_signature.proofs.check_products.Statement.{statement}
 use Rattle.check_signature.proofs.check_products.Tie as tie
+
+-- ---- earlier moments
+
+abbrev start-before-else1 : tie.Else1 → tie.Start
+start-before-else1 c = c .before .before .before .before .before .before .before
 
 returns : tie.Need-returns
 returns c =
     let k = c .before in
     let a = (k .before .before .before .before .before .before) .args in
     let s = a .s .now in
-    let 𝓢 = aesScheme (a .shape) in (
+    let 𝓢 = schemeOf (a .shape) in (
       product-refused (a .shape) (a .public .now) (a .message .now) (headPart 𝓢 0 s) (headPart 𝓢 1 s) (headPart 𝓢 2 s) (frameOf 𝓢 s)
           ((k .before) .first-product .ensures) (c .if1 .taken),
       record { long = refl; rest = refl },
@@ -37,15 +40,12 @@ returns c =
 commitments-most : (s : tie.Start) → s .args .shape .parties * 32 ≤ 4096
 commitments-most s = mul-le-mul-right 32 (s .pre .0 .valid .few)
 
-fit : {S : Shape} {len : ℕ} → Valid S → len ≡ total (rowSizes S) → S .parties * len ≤ 18176
-fit v e = rw e (rows-most v)
-
 module _ (r : tie.After-row-length) where
   abbrev start : tie.Start
   start = (r .before .before .before .before .before .before .before .before .before .before)
 
   most : start .args .shape .parties * r .row-length .result ≤ 18176
-  most = fit (start .pre .0 .valid) (r .row-length .ensures)
+  most = rows-most (start .pre .0 .valid) (r .row-length .ensures .1)
 
 check-hashes-requires : tie.Need-check-hashes-requires
 check-hashes-requires c κs =
@@ -56,7 +56,7 @@ check-hashes-requires c κs =
       (c .before .before .before .before .before .before) .second-hash .ensures,
       front-long (s .args .shape .parties * 32) zeros (commitments-most s),
       front-long (s .args .shape .parties * r .row-length .result) (s .args .work .now) (le-trans (le-trans (most r) (lit≤ tt)) (s .pre .1))
-          ∙ ap (λ n. s .args .shape .parties * n) (r .row-length .ensures),
+          ∙ ap (λ n. s .args .shape .parties * n) (r .row-length .ensures .0),
     )
 
 returns-2 : tie.Need-returns-2
@@ -65,7 +65,7 @@ returns-2 c =
     let r = (x .before .before .before .before .before) in
     let a = start r .args in
     let s = a .s .now in
-    let 𝓢 = aesScheme (a .shape) in
+    let 𝓢 = schemeOf (a .shape) in
     let l = (r .before .before .before) in (
       products-right (a .shape) (a .public .now) (a .message .now) s (x .check-hashes .ensures)
           (products-hold (a .shape) (a .public .now) (a .message .now) (headPart 𝓢 0 s) (headPart 𝓢 1 s) (headPart 𝓢 2 s) (frameOf 𝓢 s)
@@ -81,9 +81,9 @@ pub check-products-spec : {M : Type 1} → statement M
 check-products-spec =
     tie.close
     (tie.spec (λ c κs. file-right (c .before .before .before .before)) (λ c. search needs) returns
-    (λ c κs. file-right (c .before .before .before .before .before .before .before))
-    (λ c. in-word (commitments-most (c .before .before .before .before .before .before .before .before .before)) (lit≤ tt))
-    (λ c κs. (c .before .before .before .before .before .before .before .before .before) .pre .0 .valid) (λ c. in-word (most (c .before)) (lit≤ tt))
+    (λ c κs. file-right (start-before-else1 c))
+    (λ c. in-word (commitments-most (start-before-else1 (c .before .before))) (lit≤ tt))
+    (λ c κs. (start-before-else1 (c .before .before)) .pre .0 .valid) (λ c. in-word (most (c .before)) (lit≤ tt))
     (λ c. search needs) (λ c. zero-le) (λ c. zero-le) (λ c. commitments-most (start (c .before .before))) (λ c. zero-le) (λ c. zero-le)
     (λ c. le-trans (le-trans (most (c .before .before .before)) (lit≤ tt)) (start (c .before .before .before) .pre .1)) check-hashes-requires
     (λ c. search needs) returns-2)

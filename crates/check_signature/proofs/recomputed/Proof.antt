@@ -2,19 +2,35 @@
 use mathlib.Core.Path.{refl, ap, _∙_}
 use mathlib.Core.List.{_∷_}
 use Prim.Native.Nat.{ℕ, _*_, _≤_, zero-le}
-use native.Mathlib.Nat.{mul-le-mul}
 use native.Mathlib.Omega.{arith}
 use lib.Dec.{lit≤}
 use lib.ListN.{length}
+use Rattle.slices.proofs.Counts.{in-word}
 use Rattle.slices.proofs.Put.{cut-long}
 use Rattle.banquet.specs.Shape.{firstChallengeLength}
-use Rattle.sets.specs.Bounds.{by-ten}
+use Rattle.sets.specs.Bounds.{columns-most, firsts-most, seconds-most, thirds-most}
 use Rattle.verify_answers.specs.Head.{h1-is, h3-is}
 use Rattle.second_hash.proofs.Laws.{sized-second}
-use Rattle.check_signature.proofs.Counts.{in-word}
 use Rattle.check_signature.proofs.Execution.{drawn-front, array-kept}
 use Rattle.check_signature.proofs.recomputed.Statement.{statement}
 use Rattle.check_signature.proofs.recomputed.Tie as tie
+
+-- ---- earlier moments
+
+abbrev draw-arg-before-draw-arg2 : tie.After-draw-arg2 → tie.After-draw-arg
+draw-arg-before-draw-arg2 c = c .before .before .before .before .before .before .before
+
+abbrev draw-before-firsts3 : tie.After-firsts3 → tie.After-draw
+draw-before-firsts3 c = c .before .before .before .before .before .before .before .before .before
+
+abbrev draw2-before-seconds3 : tie.After-seconds3 → tie.After-draw2
+draw2-before-seconds3 c = c .before .before .before .before .before .before .before
+
+abbrev draw-arg-before-absorb-executions-arg2 : tie.After-absorb-executions-arg2 → tie.After-draw-arg
+draw-arg-before-absorb-executions-arg2 c = c .before .before .before .before .before .before .before .before .before .before .before .before .before .before .before
+
+abbrev start-before-struct-known2 : tie.After-struct-known2 → tie.Start
+start-before-struct-known2 c = c .before .before .before .before .before .before .before
 
 module _ (s : tie.Start) where
   abbrev f : ℕ
@@ -26,17 +42,17 @@ module _ (s : tie.Start) where
   abbrev p : ℕ
   p = s .args .shape .executions * 4
 
-  ten : firstChallengeLength (s .args .shape) ≤ 60
-  ten = omega (arith, by-ten (s .pre .0 .valid) (s .args .shape .wide), s .pre .0 .valid .wide-most)
+  columns : firstChallengeLength (s .args .shape) ≤ 60
+  columns = columns-most (s .pre .0 .valid)
 
-  firsts-most : f ≤ 15360
-  firsts-most = mul-le-mul (s .pre .0 .valid .brief) ten
+  few-firsts : f ≤ 2460
+  few-firsts = firsts-most (s .pre .0 .valid)
 
-  seconds-most : w ≤ 1536
-  seconds-most = mul-le-mul (s .pre .0 .valid .brief) (s .pre .0 .valid .wide-most)
+  few-seconds : w ≤ 246
+  few-seconds = seconds-most (s .pre .0 .valid)
 
-  thirds-most : p ≤ 1024
-  thirds-most = omega (arith, s .pre .0 .valid .brief)
+  few-thirds : p ≤ 164
+  few-thirds = thirds-most (s .pre .0 .valid)
 
   h1-room : 64 ≤ length (s .args .s .now)
   h1-room = omega (arith, s .pre .0 .file-sized .size)
@@ -51,23 +67,23 @@ draw-requires-2 : tie.Need-draw-requires-2
 draw-requires-2 c κs = let s = start (c .before .before .before .before) in ap length (s .pre .1) ∙ sized-second (s .args .shape) _ _ .size
 
 firsts-kept : tie.Need-slice-aggregate-absorb-executions
-firsts-kept c = let s = start (c .before .before .before .before .before .before .before .before .before .before .before) in array-kept (f s) (firsts-most s) ((c .before .before .before .before .before .before .before .before .before) .draw .last .1 .1 .0) ((c .before .before .before .before .before .before .before .before .before) .draw .kept .1 .1 .0)
+firsts-kept c = let s = start (draw-arg-before-draw-arg2 (c .before .before .before .before)) in array-kept (f s) (few-firsts s) ((draw-before-firsts3 c) .draw .last .1 .1 .0) ((draw-before-firsts3 c) .draw .kept .1 .1 .0)
 
 seconds-kept : tie.Need-slice-aggregate-absorb-executions-2
-seconds-kept c = let s = start (c .before .before .before .before .before .before .before .before .before .before .before .before) in array-kept (w s) (seconds-most s) ((c .before .before .before .before .before .before .before) .draw2 .last .1 .1 .0) ((c .before .before .before .before .before .before .before) .draw2 .kept .1 .1 .0)
+seconds-kept c = let s = start (draw-arg-before-draw-arg2 (c .before .before .before .before .before)) in array-kept (w s) (few-seconds s) ((draw2-before-seconds3 c) .draw2 .last .1 .1 .0) ((draw2-before-seconds3 c) .draw2 .kept .1 .1 .0)
 
 thirds-kept : tie.Need-slice-aggregate-absorb-executions-3
-thirds-kept c = let s = start (c .before .before .before .before .before .before .before .before .before .before .before .before .before) in array-kept (p s) (thirds-most s) ((c .before .before .before .before) .draw3 .last .1 .1 .0) ((c .before .before .before .before) .draw3 .kept .1 .1 .0)
+thirds-kept c = let s = start (draw-arg-before-draw-arg2 (c .before .before .before .before .before .before)) in array-kept (p s) (few-thirds s) ((c .before .before .before .before) .draw3 .last .1 .1 .0) ((c .before .before .before .before) .draw3 .kept .1 .1 .0)
 
 absorb-executions-requires : tie.Need-absorb-executions-requires
 absorb-executions-requires c κs =
-    let s = start (c .before .before .before .before .before .before .before .before .before .before .before .before .before .before .before) in
+    let s = start (draw-arg-before-absorb-executions-arg2 c) in
     let a = s .args in (
       s .pre .0,
       record {
-        firsts-are = drawn-front (f s) (firsts-most s) (ap (6 ∷_) (h1-is (a .shape) (a .s .now))) ((c .before .before .before .before .before .before .before .before .before .before .before .before .before) .draw .ensures);
-        seconds-are = drawn-front (w s) (seconds-most s) (ap (7 ∷_) (s .pre .1)) ((c .before .before .before .before .before .before .before .before .before .before) .draw2 .ensures);
-        thirds-are = drawn-front (p s) (thirds-most s) (ap (8 ∷_) (h3-is (a .shape) (a .s .now))) ((c .before .before .before .before .before .before) .draw3 .ensures);
+        firsts-are = drawn-front (f s) (few-firsts s) (ap (6 ∷_) (h1-is (a .shape) (a .s .now))) ((draw-before-firsts3 (c .before .before .before .before)) .draw .ensures);
+        seconds-are = drawn-front (w s) (few-seconds s) (ap (7 ∷_) (s .pre .1)) ((draw2-before-seconds3 (c .before .before .before)) .draw2 .ensures);
+        thirds-are = drawn-front (p s) (few-thirds s) (ap (8 ∷_) (h3-is (a .shape) (a .s .now))) ((c .before .before .before .before .before .before) .draw3 .ensures);
       },
       s .pre .2,
       s .pre .3,
@@ -76,9 +92,9 @@ absorb-executions-requires c κs =
 pub recomputed-spec : {M : Type 1} → statement M
 recomputed-spec =
     tie.close
-    (tie.spec (λ c. in-word (ten (c .before .before .before .before .before .before)) (lit≤ tt)) (λ c. in-word (firsts-most (c .before .before .before .before .before .before)) (lit≤ tt)) (λ c. in-word (seconds-most (c .before .before .before .before .before .before .before)) (lit≤ tt)) (λ c. in-word (thirds-most (c .before .before .before .before .before .before .before)) (lit≤ tt))
-    (λ c. lit≤ tt) (λ c. lit≤ tt) (λ c. h1-room (c .before .before .before .before .before .before .before)) (λ c. zero-le) (λ c. zero-le) (λ c. firsts-most (start c))
-    (λ c κs. cut-long 32 64 (start (c .before) .args .s .now) refl (h1-room (start (c .before)))) (λ c. zero-le) (λ c. zero-le) (λ c. seconds-most (start (c .before .before .before))) draw-requires-2 (λ c. lit≤ tt)
-    (λ c. lit≤ tt) (λ c. h3-room (start (c .before .before .before .before .before .before))) (λ c. zero-le) (λ c. zero-le) (λ c. thirds-most (start (c .before .before .before .before .before .before .before))) (λ c κs. cut-long 64 96 (start (c .before .before .before .before .before .before .before .before) .args .s .now) refl (h3-room (start (c .before .before .before .before .before .before .before .before)))) firsts-kept
+    (tie.spec (λ c. in-word (columns (c .before .before .before .before .before .before)) (lit≤ tt)) (λ c. in-word (few-firsts (c .before .before .before .before .before .before)) (lit≤ tt)) (λ c. in-word (few-seconds (start-before-struct-known2 c)) (lit≤ tt)) (λ c. in-word (few-thirds (start-before-struct-known2 c)) (lit≤ tt))
+    (λ c. lit≤ tt) (λ c. lit≤ tt) (λ c. h1-room (start-before-struct-known2 c)) (λ c. zero-le) (λ c. zero-le) (λ c. few-firsts (start c))
+    (λ c κs. cut-long 32 64 (start (c .before) .args .s .now) refl (h1-room (start (c .before)))) (λ c. zero-le) (λ c. zero-le) (λ c. few-seconds (start (c .before .before .before))) draw-requires-2 (λ c. lit≤ tt)
+    (λ c. lit≤ tt) (λ c. h3-room (start (c .before .before .before .before .before .before))) (λ c. zero-le) (λ c. zero-le) (λ c. few-thirds (start (draw-arg-before-draw-arg2 c))) (λ c κs. cut-long 64 96 (start (draw-arg-before-draw-arg2 (c .before)) .args .s .now) refl (h3-room (start (draw-arg-before-draw-arg2 (c .before))))) firsts-kept
     seconds-kept thirds-kept absorb-executions-requires (λ c. (c .before .before .before .before) .absorb-executions .kept .1 .1 .1 .1 .1 .1 .1 .0)
     (λ c. (c .before .before .before .before) .absorb-executions .kept .1 .1 .1 .1 .1 .1 .1 .1 .0) (λ c. (c .before .before .before .before) .absorb-executions .ensures))

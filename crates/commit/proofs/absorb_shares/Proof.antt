@@ -1,10 +1,16 @@
 -- `commit::absorb_shares` meets its contract: one piece, and one more. Assumes nothing.
-use mathlib.Core.Path.{refl}
+use mathlib.Core.Path.{_≡_, sym, ap, _∙_}
 use mathlib.Core.List.{List}
-use Prim.Native.Nat.{ℕ, _*_, _≤_}
+use Prim.Native.Nat.{ℕ, _-_, _*_, _≤_}
 use native.Mathlib.Omega.{arith}
-use lib.ListN.{replicate}
+use lib.ListN.{length, take, replicate}
+use Rattle.slices.specs.Lists.{rows, row, part}
+use Rattle.slices.specs.Layout.{total}
 use Rattle.slices.proofs.Put.{front-long, cut-long}
+use Rattle.banquet.specs.Shape.{sboxes, tapeSizes}
+use Rattle.banquet.specs.Sets.{schemeOf}
+use Rattle.banquet.specs.Execution.{outputShare}
+use Rattle.forms.specs.Party.{committed}
 use Rattle.commit.proofs.Laws.{two-pieces}
 use Rattle.commit.proofs.absorb_shares.Statement.{statement}
 use Rattle.commit.proofs.absorb_shares.Tie as tie
@@ -25,7 +31,7 @@ output-shares-requires c κs =
       p .0,
       p .1,
       front-long 16 l (omega (arith, p .2)),
-      cut-long 16 216 {n = 200} l refl (omega (arith, p .2)),
+      cut-long 16 (length l) {n = sboxes (start k .args .shape)} l (sym (p .2)) (omega arith),
       p .3,
       front-long (start k .args .shape .parties * 16) z (omega (arith, few k)),
     )
@@ -34,8 +40,13 @@ returns : tie.Need-returns
 returns c =
     let a = c .before .before in
     let o = a .before .before .before .before in
-    let s = o .before .before .before .before .before .before .before .before .before .args in
-    two-pieces (s .s) (s .offsets .now) (o .output-shares .ensures) (a .absorb .ensures) (c .absorb2 .ensures)
+    let b = start (o .before .before .before .before .before) in
+    let s = b .args in
+    let size : length (s .offsets .now) - 16 ≡ sboxes (s .shape) = omega (arith, b .pre .2) in
+    let made = o .output-shares .ensures ∙ ap (λ n. rows (λ i. outputShare (schemeOf (s .shape))
+    (committed (s .front .now) (take 16 (s .offsets .now)) (part 16 n (s .offsets .now))) i (row (total (tapeSizes (s .shape))) i (s .tapes .now)))
+    (s .shape .parties)) size in
+    two-pieces (s .s) (s .offsets .now) made (a .absorb .ensures) (c .absorb2 .ensures)
 
 pub absorb-shares-spec : {M : Type 1} → statement M
 absorb-shares-spec =

@@ -9,7 +9,7 @@ use Rattle.slices.proofs.Rows.{row-fits, row-long, row-cut}
 use Rattle.absorb_rows.proofs.Laws.{part-more}
 use Rattle.stream.specs.Stream.{absorbed}
 use Rattle.banquet.specs.Shape.{tapeSizes, frameSizes}
-use Rattle.frames.specs.Frames.{frame-total, frames-most}
+use Rattle.frames.specs.Frames.{frames-most}
 use Rattle.signing.specs.Steps.{offsetsAt, ownRow, ownPart}
 use Rattle.signing.specs.Loop.{Reworking, reworking-none, reworking-row, reworking-lent, reworking-all}
 use Rattle.commit.proofs.Laws.{frame-turned, part-turned}
@@ -26,25 +26,33 @@ Inv-loop shape salt roots front witness frames₀ tapes₀ len n t₀ e₀ frame
 abbrev μ-loop : tie.MeasureT-loop
 μ-loop shape salt roots front witness frames₀ tapes₀ len n t₀ e₀ frames tapes t e = n - e
 
-abbrev start : tie.At-loop Inv-loop μ-loop → tie.Start Inv-loop μ-loop
-start k = (k .before .before .before .before .before .before .before .before .before)
+-- ---- earlier moments
 
-module _ (s : tie.Start Inv-loop μ-loop) where
+abbrev turn-before-slice-known4 : tie.After-slice-known4 Inv-loop μ-loop → tie.In-loop Inv-loop μ-loop
+turn-before-slice-known4 c = c .before .before .before .before .before .before .before .before
+
+module _ (f : tie.After-frame-length Inv-loop μ-loop) where
+  abbrev entry : tie.Start Inv-loop μ-loop
+  entry = f .before .before .before .before .before .before .before
+
   abbrev len : ℕ
-  len = 248 + 16 * s .args .shape .depth + 42 * s .args .shape .wide
+  len = f .frame-length .result
 
-  frame-size : total (frameSizes (s .args .shape)) ≡ len
-  frame-size = frame-total (s .pre .0)
+  frame-size : len ≡ total (frameSizes (entry .args .shape))
+  frame-size = f .frame-length .ensures .0
 
-  whole : length (s .args .frames .now) ≡ s .args .shape .executions * len
-  whole = s .pre .5 ∙ ap (s .args .shape .executions *_) frame-size
+  whole : length (entry .args .frames .now) ≡ entry .args .shape .executions * len
+  whole = entry .pre .5 ∙ ap (entry .args .shape .executions *_) (sym frame-size)
 
 module _ (c : tie.In-loop Inv-loop μ-loop) where
   abbrev k : tie.At-loop Inv-loop μ-loop
   k = c .before
 
+  abbrev f : tie.After-frame-length Inv-loop μ-loop
+  f = k .before
+
   abbrev s : tie.Start Inv-loop μ-loop
-  s = start k
+  s = entry f
 
   few : k .loop .e < 256
   few = omega (arith, c .loop-test .taken, s .pre .0 .brief)
@@ -53,24 +61,23 @@ module _ (c : tie.In-loop Inv-loop μ-loop) where
   root-room : k .loop .e * 16 + 16 ≤ length (s .args .roots .now)
   root-room = omega (arith, row-fits 16 (c .loop-test .taken), s .pre .2)
 
-  frame-fits : k .loop .e * len s + len s ≤ s .args .shape .executions * len s
-  frame-fits = row-fits (len s) (c .loop-test .taken)
+  frame-fits : k .loop .e * len f + len f ≤ s .args .shape .executions * len f
+  frame-fits = row-fits (len f) (c .loop-test .taken)
 
-  frame-room : k .loop .e * len s + len s ≤ length (k .loop .frames)
+  frame-room : k .loop .e * len f + len f ≤ length (k .loop .frames)
   frame-room = omega (arith, frame-fits, k .loop .inv .2 .done .long)
 
-  frame-most : k .loop .e * len s + len s ≤ 156672
-  frame-most = omega (arith, frame-fits, frames-most (s .pre .0), ap (s .args .shape .executions *_) (frame-size s))
+  frame-most : k .loop .e * len f + len f ≤ 25092
+  frame-most = omega (arith, frame-fits, frames-most (s .pre .0), ap (s .args .shape .executions *_) (frame-size f))
 
-  frame-is : take (k .loop .e * len s + len s - k .loop .e * len s) (drop (k .loop .e * len s) (k .loop .frames))
+  frame-is : take (k .loop .e * len f + len f - k .loop .e * len f) (drop (k .loop .e * len f) (k .loop .frames))
       ≡ row (total (frameSizes (s .args .shape))) (k .loop .e) (s .args .frames .now)
-  frame-is = reworking-row (k .loop .inv .2) ∙ ap (λ n. row n (k .loop .e) (s .args .frames .now)) (sym (frame-size s))
+  frame-is = reworking-row (k .loop .inv .2) ∙ ap (λ n. row n (k .loop .e) (s .args .frames .now)) (frame-size f)
 
 loop-holds : tie.Need-loop-holds Inv-loop μ-loop
 unfolding absorbed
 loop-holds c =
-    let s = (c .before .before .before .before .before .before .before .before) in
-    (omega arith, s .pre .6, reworking-none _ _ (whole s), refl)
+    (omega arith, entry c .pre .6, reworking-none _ _ (whole c), refl)
 
 commit-frame-requires : tie.Need-commit-frame-requires Inv-loop μ-loop
 commit-frame-requires c κs =
@@ -81,7 +88,7 @@ commit-frame-requires c κs =
       row-long (k i .loop .e) 16 (s i .args .roots .now) (root-room i),
       p .3,
       p .4,
-      row-long (k i .loop .e) (len (s i)) (k i .loop .frames) (frame-room i) ∙ sym (frame-size (s i)),
+      row-long (k i .loop .e) (len (f i)) (k i .loop .frames) (frame-room i) ∙ frame-size (f i),
       k i .loop .inv .1,
     )
 
@@ -104,17 +111,14 @@ loop-again c =
 returns : tie.Need-returns Inv-loop μ-loop
 returns c =
     let k = c .before in
-    let e : k .loop .e ≡ start k .args .shape .executions = omega arith in
+    let e : k .loop .e ≡ entry (k .before) .args .shape .executions = omega arith in
     (reworking-all (rw e at (k .loop .inv .2)) (omega arith), rw e at (k .loop .inv .3))
 
 pub commit-frames-spec : {M : Type 1} → statement M
 commit-frames-spec =
     tie.close
     (tie.spec Inv-loop μ-loop
-    (λ c. omega (arith, c .before .before .before .before .before .before .before .pre .0 .shallow))
-    (λ c. omega (arith, c .before .before .before .before .before .before .before .pre .0 .shallow))
-    (λ c. omega (arith, c .before .before .before .before .before .before .before .before .pre .0 .wide-most))
-    (λ c. let v = c .before .before .before .before .before .before .before .before .pre .0 in omega (arith, v .shallow, v .wide-most))
+    (λ c κs. c .before .before .before .before .before .before .pre .0)
     loop-holds
     (λ c. omega (arith, few c))
     (λ c. omega (arith, few c))
@@ -128,8 +132,8 @@ commit-frames-spec =
     (λ c. omega arith)
     (λ c. frame-room (c .before))
     commit-frame-requires
-    (λ c. omega (arith, few (c .before .before .before .before .before .before .before .before)))
-    (λ c. omega (arith, (c .before .before .before .before .before .before .before .before) .loop-test .taken))
+    (λ c. omega (arith, few (turn-before-slice-known4 c)))
+    (λ c. omega (arith, (turn-before-slice-known4 c) .loop-test .taken))
     loop-again
-    (λ c. let k = c .before in k .loop .inv .2 .done .long ∙ sym (whole (start k)))
-    (λ c. let k = c .before in k .loop .inv .1 ∙ sym (start k .pre .6)) returns)
+    (λ c. let k = c .before in k .loop .inv .2 .done .long ∙ sym (whole (k .before)))
+    (λ c. let k = c .before in k .loop .inv .1 ∙ sym (entry (k .before) .pre .6)) returns)

@@ -19,22 +19,22 @@ module _ (r : tie.After-row-length) where
   start = (r .before .before .before)
 
   least : 16 ≤ r .row-length .result
-  least = omega (arith, r .row-length .ensures)
+  least = omega (arith, r .row-length .ensures .0)
 
   within : r .row-length .result - 16 ≤ length (start .args .frame .now)
-  within = omega (arith, start .pre .1, r .row-length .ensures)
+  within = omega (arith, start .pre .1, r .row-length .ensures .0)
 
 absorb-column-requires : tie.Need-absorb-column-requires
 absorb-column-requires c κs =
     let r = (c .before .before) in
-    (start r .pre .2 ∙ ap (λ (m : ℕ). start r .args .shape .parties * m) (sym (r .row-length .ensures)), omega (arith, least r))
+    (start r .pre .2 ∙ ap (λ (m : ℕ). start r .args .shape .parties * m) (sym (r .row-length .ensures .0)), omega (arith, least r))
 
 returns : tie.Need-returns
 returns c =
     let r = (c .before .before .before) in
     let a = start r .args in
-    let sums = sums-last (a .shape) (a .frame .now) (start r .pre .1) (r .row-length .ensures) in
-    let column = ap (λ (m : ℕ). columnOf (a .shape .parties) m 16 (m - 16) (a .rows .now)) (r .row-length .ensures) in
+    let sums = sums-last (a .shape) (a .frame .now) (start r .pre .1) (r .row-length .ensures .0) in
+    let column = ap (λ (m : ℕ). columnOf (a .shape .parties) m 16 (m - 16) (a .rows .now)) (r .row-length .ensures .0) in
     more (a .s) _ _ ((c .before) .absorb .ensures ∙ ap (absorbed (a .s)) sums) (c .absorb-column .ensures ∙ ap (absorbed ((c .before) .absorb .result)) column)
 
 pub absorb-third-spec : {M : Type 1} → statement M

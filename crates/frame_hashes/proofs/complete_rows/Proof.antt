@@ -15,6 +15,11 @@ use Rattle.frame_hashes.proofs.Laws.{sums-long, whole-written}
 use Rattle.frame_hashes.proofs.complete_rows.Statement.{statement}
 use Rattle.frame_hashes.proofs.complete_rows.Tie as tie
 
+-- ---- earlier moments
+
+abbrev copy-at2-before-slice-known2 : tie.After-slice-known2 → tie.After-copy-at2
+copy-at2-before-slice-known2 c = c .before .before .before .before .before .before .before .before .before
+
 rest-le : (a b : ℕ) → a - b ≤ a
 rest-le a b = omega arith
 
@@ -39,13 +44,13 @@ module _ (z : tie.After-row-length) where
   zeros = replicate 142 0
 
   least : 16 ≤ len
-  least = omega (arith, z .row-length .ensures)
+  least = omega (arith, z .row-length .ensures .0)
 
   most : len ≤ 142
-  most = omega (arith, row-most (start .pre .0), z .row-length .ensures)
+  most = omega (arith, row-most (start .pre .0), z .row-length .ensures .0)
 
   within : len - 16 ≤ length (start .args .frame .now)
-  within = omega (arith, start .pre .3, z .row-length .ensures)
+  within = omega (arith, start .pre .3, z .row-length .ensures .0)
 
   cipher-room : 32 ≤ length (start .args .public .now)
   cipher-room = omega (arith, start .pre .1)
@@ -54,7 +59,7 @@ module _ (z : tie.After-row-length) where
   cipher-long = cut-long 16 32 (start .args .public .now) refl cipher-room
 
   last-long : length last ≡ len - 16
-  last-long = sums-long (start .args .shape) (start .args .frame .now) (start .pre .3) (z .row-length .ensures)
+  last-long = sums-long (start .args .shape) (start .args .frame .now) (start .pre .3) (z .row-length .ensures .0)
 
 -- ---- what is written after each call
 
@@ -82,7 +87,7 @@ module _ (y : tie.After-copy-at2) where
   room = omega (arith, most z, wrote2 .long)
 
   whole-long : length (take (len z - 0) (y .copy-at2 .last .0)) ≡ total (rowSizes (s .args .shape))
-  whole-long = front-long (len z) (y .copy-at2 .last .0) room ∙ z .row-length .ensures
+  whole-long = front-long (len z) (y .copy-at2 .last .0) room ∙ z .row-length .ensures .0
 
 copy-at-requires-2 : tie.Need-copy-at-requires-2
 copy-at-requires-2 c κs =
@@ -97,17 +102,17 @@ complete-requires c κs =
     let room : len (z y) ≤ length (zeros (z y)) = omega (arith, most (z y)) in (
       p .2,
       p .4 ∙ ap (λ (n : ℕ). s y .args .shape .parties * n) (sym (whole-long y)),
-      front-long (len (z y)) (zeros (z y)) room ∙ z y .row-length .ensures ∙ sym (whole-long y),
+      front-long (len (z y)) (zeros (z y)) room ∙ z y .row-length .ensures .0 ∙ sym (whole-long y),
     )
 
 returns : tie.Need-returns
 returns c =
-    let y = (c .before .before .before .before .before .before .before .before .before) in
+    let y = copy-at2-before-slice-known2 c in
     let a = s y .args in
     let p = s y .pre in
     (c .before .before .before) .complete .ensures .0
     ∙ ap₂ (λ (w : List ℕ) (n : ℕ). rows (completedRow (a .shape .parties) (a .hidden) w (λ i. row n i (a .rows .now))) (a .shape .parties))
-    (whole-written (a .shape) (a .frame .now) (p .3) (z y .row-length .ensures) (p .0) (a .public .now) (p .1) (wrote2 y)) (whole-long y)
+    (whole-written (a .shape) (a .frame .now) (p .3) (z y .row-length .ensures .0) (p .0) (a .public .now) (p .1) (wrote2 y)) (whole-long y)
 
 pub complete-rows-spec : {M : Type 1} → statement M
 complete-rows-spec =

@@ -9,14 +9,14 @@ use borrow.Author.Needs.{needs}
 use borrow.Author.Tests.{not-true, not-false}
 use Rattle.compare.specs.Lowest.{lowest, lowest-here, lowest-next, lowest-end}
 use Rattle.banquet.specs.declared.Shape.{Shape}
-use Rattle.banquet.specs.Sets.{aesScheme}
+use Rattle.banquet.specs.Sets.{schemeOf}
 use Rattle.banquet.specs.Signature.{frameOf, frameHolds}
 use Rattle.frame_products.proofs.first_product.Statement.{statement}
 use Rattle.frame_products.proofs.first_product.Tie as tie
 
 -- the product check of frame e passes
 abbrev passes : Shape → List ℕ → ℕ → Bool
-passes S s e = frameHolds (aesScheme S) (frameOf (aesScheme S) s e)
+passes S s e = frameHolds (schemeOf S) (frameOf (schemeOf S) s e)
 
 abbrev Inv-loop : tie.InvT-loop
 Inv-loop shape s n e₀ e = (e ≤ n) × (lowest n 0 (passes shape s) ≡ lowest (n - e) e (passes shape s))

@@ -57,14 +57,4 @@ returns c =
 pub mul-spec : {M : Type 1} → statement M
 mul-spec =
     tie.close
-    (tie.spec
-    Inv-loop
-    μ-loop
-    top-requires
-    rem-x
-    loop-holds
-    step-requires
-    (λ c. search needs)
-    (λ c. search needs)
-    loop-again
-    returns)
+    (tie.spec Inv-loop μ-loop top-requires rem-x loop-holds step-requires (λ c. search needs) (λ c. search needs) loop-again returns)

@@ -8,15 +8,11 @@ use Rattle.hex.proofs.digit_of.Tie as tie
 
 returns : tie.Need-returns
 unfolding digitOf
-returns c =
-    let v = c .before .args .value in
-    simp (lt-ltb v 10 (omega arith))
+returns c = simp (lt-ltb (c .before .args .value) 10 (omega arith))
 
 returns-2 : tie.Need-returns-2
 unfolding digitOf
-returns-2 c =
-    let v = c .before .args .value in
-    simp (le-ltb v 10 (omega arith))
+returns-2 c = simp (le-ltb (c .before .args .value) 10 (omega arith))
 
 pub digit-of-spec : {M : Type 1} → statement M
 digit-of-spec = tie.close (tie.spec (λ c. search needs) returns (λ c. search needs) returns-2)

@@ -7,15 +7,11 @@ use Rattle.hex.proofs.half_of.Tie as tie
 
 returns : tie.Need-returns
 unfolding half
-returns c =
-    let k = c .before .args .digit in
-    simp (eq-eqb k 0 (omega arith))
+returns c = simp (eq-eqb (c .before .args .digit) 0 (omega arith))
 
 returns-2 : tie.Need-returns-2
 unfolding half
-returns-2 c =
-    let k = c .before .args .digit in
-    simp (ne-eqb k 0 (λ e. omega arith))
+returns-2 c = simp (ne-eqb (c .before .args .digit) 0 (λ e. omega arith))
 
 pub half-of-spec : {M : Type 1} → statement M
 half-of-spec = tie.close (tie.spec returns returns-2)

@@ -17,6 +17,11 @@ Inv-loop bits low x weights out₀ product₀ k₀ out product k =
 abbrev μ-loop : tie.MeasureT-loop
 μ-loop bits low x weights out₀ product₀ k₀ out product k = k
 
+-- ---- earlier moments
+
+abbrev start-before-turn : tie.In-loop Inv-loop μ-loop → tie.Start Inv-loop μ-loop
+start-before-turn c = c .before .before .before .before .before .before .before .before
+
 prefixes-requires : tie.Need-prefixes-requires Inv-loop μ-loop
 prefixes-requires c κs = c .before .before .before .pre .0
 
@@ -31,7 +36,7 @@ loop-again : tie.Need-loop-again Inv-loop μ-loop
 loop-again c =
     let b = c .before .before .before .before .before in
     let l = b .before .loop in
-    let s = b .before .before .before .before .before .before .before .before in (
+    let s = start-before-turn b in (
       omega arith,
       search needs,
       down-more _ _ _ (s .pre .3) (s .pre .1) (l .inv .2) (omega arith) (l .inv .0) (l .inv .1)
@@ -44,22 +49,6 @@ returns c = let l = c .before .loop in down-all _ _ _ (l .inv .2) (omega arith) 
 pub values-spec : {M : Type 1} → statement M
 values-spec =
     tie.close
-    (tie.spec
-    Inv-loop
-    μ-loop
-    prefixes-requires
-    loop-holds
-    (λ c. omega arith)
-    (λ c. omega arith)
-    (λ c. omega arith)
-    (λ c κs. search needs)
-    (λ c. omega arith)
-    (λ c. omega arith)
-    (λ c κs. search needs)
-    (λ c. omega arith)
-    (λ c. omega arith)
-    (λ c κs. search needs)
-    (λ c. omega arith)
-    loop-again
-    (λ c. omega arith)
-    returns)
+    (tie.spec Inv-loop μ-loop prefixes-requires loop-holds (λ c. omega arith) (λ c. omega arith) (λ c. omega arith) (λ c κs. search needs)
+    (λ c. omega arith) (λ c. omega arith) (λ c κs. search needs) (λ c. omega arith) (λ c. omega arith) (λ c κs. search needs) (λ c. omega arith)
+    loop-again (λ c. omega arith) returns)

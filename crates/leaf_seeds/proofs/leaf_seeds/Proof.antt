@@ -7,16 +7,16 @@ use Rattle.leaf_seeds.proofs.leaf_seeds.Statement.{statement}
 use Rattle.leaf_seeds.proofs.leaf_seeds.Tie as tie
 
 part-seeds-end : tie.Need-part-seeds-end
-part-seeds-end c = omega (arith, c .leaf-bytes .ensures, leaves-most (c .before .before .before .pre .0))
+part-seeds-end c = omega (arith, c .leaf-bytes .ensures .0, leaves-most (c .before .before .before .pre .0))
 
 expand-requires : tie.Need-expand-requires
 expand-requires c κs =
     let at-size = c .before in
     let p = at-size .before .before .before .pre in
-    (p .1, p .2, front-long _ (at-size .leaf-bytes .ensures) (leaves-most (p .0)), omega (arith, leaves-most (p .0)))
+    (p .1, p .2, front-long _ (at-size .leaf-bytes .ensures .0) (leaves-most (p .0)), omega (arith, leaves-most (p .0)))
 
 returns : tie.Need-returns
-returns c = zeros-behind 2048 (c .before .before .before .leaf-bytes .ensures) (c .before .expand .ensures)
+returns c = zeros-behind 2048 (c .before .before .before .leaf-bytes .ensures .0) (c .before .expand .ensures)
 
 pub leaf-seeds-spec : {M : Type 1} → statement M
 leaf-seeds-spec =

@@ -8,13 +8,23 @@ use Rattle.slices.specs.Layout.{total}
 use Rattle.slices.proofs.Put.{front-long}
 use Rattle.banquet.specs.Shape.{frameSizes, firstChallengeLength}
 use Rattle.sets.specs.Valid.{Valid}
-use Rattle.sets.specs.Bounds.{by-ten}
-use Rattle.make_signature.proofs.Laws.{firsts-most}
+use Rattle.sets.specs.Bounds.{columns-most, firsts-most}
 use Rattle.make_signature.proofs.answer_passes.Statement.{statement}
 use Rattle.make_signature.proofs.answer_passes.Tie as tie
 
+-- ---- earlier moments
+
+abbrev start-before-struct-known : tie.After-struct-known → tie.Start
+start-before-struct-known c = c .before .before .before .before .before .before .before .before .before
+
+abbrev offset-pass-before-open-pass-arg2 : tie.After-open-pass-arg2 → tie.After-offset-pass
+offset-pass-before-open-pass-arg2 c = c .before .before .before .before .before .before .before .before
+
+abbrev open-pass-before-finish-pass-arg : tie.After-finish-pass-arg → tie.After-open-pass
+open-pass-before-finish-pass-arg c = c .before .before .before .before .before .before .before
+
 abbrev zeros : List ℕ
-zeros = replicate 15360 0
+zeros = replicate 2460 0
 
 module _ (s : tie.Start) where
   valid : Valid (s .args .shape)
@@ -30,7 +40,7 @@ module _ (s : tie.Start) where
 
 offset-pass-requires : tie.Need-offset-pass-requires
 offset-pass-requires c κs =
-    let s = c .before .before .before .before .before .before .before .before .before .before .before .before .before in
+    let s = start-before-struct-known (c .before .before .before .before) in
     let p = s .pre in
     (p .0, p .4, p .5, p .6, asked s)
 
@@ -46,7 +56,7 @@ module _ (o : tie.After-offset-pass) where
 
 open-pass-requires : tie.Need-open-pass-requires
 open-pass-requires c κs =
-    let o = c .before .before .before .before .before .before .before .before in
+    let o = offset-pass-before-open-pass-arg2 c in
     let s = start o in
     let p = s .pre in
     (record { valid = valid s; frames-size = held-size o }, p .1, p .2, p .3, h2-size o, o .offset-pass .kept .1 .1 .1 .1 .0 ∙ asked s, p .7)
@@ -60,18 +70,18 @@ module _ (q : tie.After-open-pass) where
 
 finish-pass-requires : tie.Need-finish-pass-requires
 finish-pass-requires c κs =
-    let q = c .before .before .before .before .before .before .before in
+    let q = open-pass-before-finish-pass-arg c in
     let s = start (offset q) in
     (record { valid = valid s; frames-size = q .open-pass .kept .1 .1 .1 .1 .1 .1 .0 ∙ held-size (offset q) }, s .pre .2, s .pre .3, h3-size q)
 
 same-length : tie.Need-same-length
 same-length c =
-    let q = c .before .before .before .before .before .before .before .before .before .before in
+    let q = open-pass-before-finish-pass-arg (c .before .before .before) in
     c .before .before .finish-pass .kept .1 .1 .1 .1 .0 ∙ q .open-pass .kept .1 .1 .1 .1 .1 .1 .0 ∙ offset q .offset-pass .kept .1 .1 .1 .1 .1 .0
 
 returns : tie.Need-returns
 returns c =
-    let q = c .before .before .before .before .before .before .before .before .before .before in
+    let q = open-pass-before-finish-pass-arg (c .before .before .before) in
     let o = offset q in (
       record {
         firsts = o .offset-pass .last .1 .1 .1 .1 .0;
@@ -92,16 +102,16 @@ pub answer-passes-spec : {M : Type 1} → statement M
 answer-passes-spec =
     tie.close
     (tie.spec
-    (λ c. let s = c .before .before .before .before .before .before .before .before .before in omega (arith, by-ten (valid s) (s .args .shape .wide), valid s .wide-most))
-    (λ c. omega (arith, firsts-most (valid (c .before .before .before .before .before .before .before .before .before .before))))
+    (λ c. let s = start-before-struct-known c in omega (arith, columns-most (valid s)))
+    (λ c. omega (arith, firsts-most (valid (start-before-struct-known (c .before)))))
     (λ c. omega arith)
     (λ c. omega arith)
-    (λ c. omega (arith, firsts-most (valid (c .before .before .before .before .before .before .before .before .before .before))))
+    (λ c. omega (arith, firsts-most (valid (start-before-struct-known (c .before)))))
     offset-pass-requires
     (λ c. sym (h2-size (c .before .before .before .before .before)))
     open-pass-requires
     (λ c. sym (h3-size (c .before .before .before .before .before .before)))
     finish-pass-requires
     same-length
-    (λ c. c .before .before .before .before .before .before .before .before .before .before .open-pass .kept .1 .1 .1 .1 .1 .1 .1 .0)
+    (λ c. open-pass-before-finish-pass-arg (c .before .before .before) .open-pass .kept .1 .1 .1 .1 .1 .1 .1 .0)
     returns)

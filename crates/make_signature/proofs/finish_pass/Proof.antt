@@ -10,8 +10,13 @@ use Rattle.make_signature.proofs.Hashes.{finished-right}
 use Rattle.make_signature.proofs.finish_pass.Statement.{statement}
 use Rattle.make_signature.proofs.finish_pass.Tie as tie
 
+-- ---- earlier moments
+
+abbrev start-before-draw-arg : tie.After-draw-arg → tie.Start
+start-before-draw-arg c = c .before .before .before .before .before .before .before
+
 abbrev zeros : List ℕ
-zeros = replicate 1024 0
+zeros = replicate 164 0
 
 -- ---- the hidden parties' bytes
 
@@ -49,7 +54,7 @@ finish-pass-spec =
     (λ c. omega arith)
     (λ c. omega arith)
     (λ c. omega (arith, c .before .before .before .before .before .pre .0 .valid .brief))
-    (λ c κs. c .before .before .before .before .before .before .before .pre .3)
+    (λ c κs. start-before-draw-arg c .pre .3)
     finish-frames-requires
     (λ c. c .before .before .before .finish-frames .kept .1 .1 .1 .1 .0)
     returns)

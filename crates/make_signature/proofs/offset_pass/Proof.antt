@@ -1,80 +1,114 @@
 -- `make_signature::offset_pass` meets its contract: the first challenges are those of h1, the rows those of inputs and inverses, and what is absorbed
 -- is what h2 binds. Assumes nothing.
 use mathlib.Core.Path.{_≡_, refl, sym, ap, _∙_}
-use mathlib.Core.List.{_∷_}
-use Prim.Native.Nat.{_+_, _*_}
+use mathlib.Core.List.{List, _∷_}
+use Prim.Native.Nat.{ℕ, _+_, _-_, _*_}
 use native.Mathlib.Omega.{arith}
-use lib.ListN.{length}
+use lib.Dec.{lit<}
+use lib.ListN.{length, take, replicate}
 use Rattle.slices.specs.Bytes.{bytes-of}
-use Rattle.slices.specs.Layout.{total}
+use Rattle.slices.proofs.Put.{front-long}
 use Rattle.shake.specs.Shake128.{shake128}
-use Rattle.banquet.specs.Shape.{frameSizes}
 use Rattle.sets.specs.Valid.{Valid}
-use Rattle.signing.specs.Steps.{offsetsAt}
-use Rattle.make_signature.proofs.Laws.{frames-by}
+use Rattle.sets.specs.Bounds.{all-sboxes}
+use Rattle.frames.specs.Frames.{frame-total}
+use Rattle.signing.specs.Steps.{offsetsAt, witnessLength}
 use Rattle.make_signature.proofs.Hashes.{offset-right, second-hashed}
 use Rattle.make_signature.proofs.offset_pass.Statement.{statement}
 use Rattle.make_signature.proofs.offset_pass.Tie as tie
+
+-- ---- earlier moments
+
+abbrev start-before-struct-known : tie.After-struct-known → tie.Start
+start-before-struct-known c = c .before .before .before .before .before .before .before .before .before .before
+
+abbrev true-rows-before-lasts3 : tie.After-lasts3 → tie.After-true-rows
+true-rows-before-lasts3 c = c .before .before .before .before .before .before .before .before
+
+abbrev draw-before-true-rows : tie.After-true-rows → tie.After-draw
+draw-before-true-rows c = c .before .before .before .before .before .before .before .before .before
+
+abbrev true-rows-before-slice-known6 : tie.After-slice-known6 → tie.After-true-rows
+true-rows-before-slice-known6 c = c .before .before .before .before .before .before .before .before .before .before .before .before .before .before .before
+
+abbrev frame-length-before-h2 : tie.After-h2 → tie.After-frame-length
+frame-length-before-h2 c = c .before .before .before .before .before .before .before .before
 
 valid : (s : tie.Start) → Valid (s .args .shape)
 valid s = s .pre .0 .valid
 
 abbrev start : tie.After-true-rows → tie.Start
-start t = t .before .before .before .before .before .before .before .before .before .before .before .before .before
+start t = t .before .before .before .before .before .before .before .before .before .before .before .before .before .before .before .before
+
+-- the part of an array of rows that is lent
+lent : (s : tie.Start) → length {A = ℕ} (take (21 * s .args .shape .m1 - 0) (replicate 210 0)) ≡ 21 * s .args .shape .m1
+lent s = let array : List ℕ = replicate 210 0 in front-long (21 * s .args .shape .m1) array (omega (arith, valid s .columns))
 
 true-rows-requires : tie.Need-true-rows-requires
 true-rows-requires c κs =
-    let s = c .before .before .before .before .before .before .before .before .before .before .before .before in
-    (valid s, s .pre .1, s .pre .2, refl, refl, refl)
+    let s = start-before-struct-known (c .before .before .before .before .before) in
+    (valid s, s .pre .1, s .pre .2, lent s, lent s, refl)
 
 offset-frames-requires : tie.Need-offset-frames-requires
 offset-frames-requires c κs =
-    let t = c .before .before .before .before .before .before .before .before in
-    let p = start t .pre in (
+    let t = true-rows-before-lasts3 (c .before .before) in
+    let s = start t in
+    let p = s .pre in (
       record {
-        valid = valid (start t);
-        us-size = t .true-rows .kept .1 .1 .1 .0;
-        vs-size = t .true-rows .kept .1 .1 .1 .1 .0;
+        valid = valid s;
+        us-size = t .true-rows .kept .1 .1 .1 .0 ∙ lent s;
+        vs-size = t .true-rows .kept .1 .1 .1 .1 .0 ∙ lent s;
         lasts-size = t .true-rows .kept .1 .1 .1 .1 .1 .0;
       },
-      t .before .before .before .before .before .before .draw .kept .1 .1 .0 ∙ p .4,
+      draw-before-true-rows t .draw .kept .1 .1 .0 ∙ p .4,
       p .0 .frames-size,
     )
 
 -- ---- the frames with their product offsets
 
-module _ (x : tie.After-offset-frames) where
+module _ (f : tie.After-frame-length) where
+  abbrev made : tie.After-offset-frames
+  made = f .before .before .before .before .before
+
   abbrev rows-made : tie.After-true-rows
-  rows-made = x .before .before .before .before .before .before .before .before .before
+  rows-made = made .before .before .before .before .before .before .before .before .before .before .before
 
   abbrev entry : tie.Start
   entry = start rows-made
 
-  frames-size : length (x .offset-frames .last .1 .1 .1 .1 .1 .0) ≡ entry .args .shape .executions * total (frameSizes (entry .args .shape))
-  frames-size = x .offset-frames .kept .1 .1 .1 .1 .1 .0 ∙ entry .pre .0 .frames-size
+  frames-size : length (made .offset-frames .last .1 .1 .1 .1 .1 .0) ≡ entry .args .shape .executions * f .frame-length .result
+  frames-size = made .offset-frames .kept .1 .1 .1 .1 .1 .0 ∙ entry .pre .0 .frames-size ∙ ap (entry .args .shape .executions *_) (sym (f .frame-length .ensures .0))
+
+-- the product offsets stand behind the others
+behind : (o : tie.After-offset)
+    → o .offset .result ≡ offsetsAt (entry (o .before) .args .shape) + witnessLength (entry (o .before) .args .shape)
+behind o = o .offset .ensures .0 ∙ omega arith
 
 absorb-column-requires : tie.Need-absorb-column-requires
 absorb-column-requires c κs =
-    let x = c .before .before .before .before .before .before .before in
-    (frames-by (valid (entry x)) (x .offset-frames .last .1 .1 .1 .1 .1 .0) (frames-size x), omega arith)
+    let o = c .before .before .before in
+    let f = o .before in
+    let v = valid (entry f) in (frames-size f, omega (arith, f .frame-length .ensures .0, behind o, frame-total v, all-sboxes v))
 
 returns : tie.Need-returns
 returns c =
-    let x = c .before .before .before .before .before .before .before .before .before .before .before in
-    let t = rows-made x in
-    let s = entry x in
+    let t = c .before .before .before .before .before .before in
+    let o = t .before in
+    let f = o .before in
+    let x = made f in
+    let r = rows-made f in
+    let s = entry f in
     let a = s .args in
     let v = valid s in
-    let drawn = t .before .before .before .before .before .before .draw .ensures ∙ ap (shake128 (6 ∷ a .h1 .now)) (s .pre .4) in
-    let rows = t .true-rows .ensures in
-    let at : 248 + 16 * a .shape .depth ≡ offsetsAt (a .shape) + 216 = omega arith in (
+    let drawn = r .before .before .before .before .before .before .before .before .before .draw .ensures ∙ ap (shake128 (6 ∷ a .h1 .now)) (s .pre .4) in
+    let rows = r .true-rows .ensures in (
       drawn,
       (
         offset-right v (a .h1 .now) (a .inputs .now) (a .inverses .now) (a .frames .now) (rows .0) (rows .1 .0) (rows .1 .1) drawn
             (x .offset-frames .ensures),
         c .before .output .ensures
-            ∙ second-hashed v (bytes-of (t .before .before .before .before .before .before .before .before .before .before .shared-slice-known3 .given))
-            (bytes-of (c .before .before .before .before .before .before .before .before .before .slice-known4 .given)) (c .before .before .before .before .before .before .tagged .ensures) (c .before .before .before .absorb-column .ensures) at,
+            ∙ second-hashed v (bytes-of (r .before .before .before .before .before .before .before .before .before .before .before .before .before .shared-slice-known3 .given)) (bytes-of (f .before .slice-known6 .given))
+            (t .tagged .ensures) (c .before .before .before .absorb-column .ensures) (behind o) (f .frame-length .ensures .0),
       ),
     )
 
@@ -83,23 +117,24 @@ offset-pass-spec =
     tie.close
     (tie.spec
     (λ c κs. c .before .before .before .before .before .before .pre .3)
-    (λ c. refl)
-    (λ c. refl)
+    (λ c. omega (arith, valid (start-before-struct-known c) .columns))
+    (λ c. omega arith)
+    (λ c. omega arith)
+    (λ c. omega (arith, valid (start-before-struct-known c) .columns))
+    (λ c. omega arith)
+    (λ c. omega arith)
+    (λ c. omega (arith, valid (start-before-struct-known (c .before)) .columns))
     (λ c. refl)
     true-rows-requires
-    (λ c. sym (c .before .before .before .before .true-rows .kept .1 .1 .1 .0))
-    (λ c. sym (c .before .before .before .before .before .true-rows .kept .1 .1 .1 .1 .0))
-    (λ c. sym (c .before .before .before .before .before .before .true-rows .kept .1 .1 .1 .1 .1 .0))
+    (λ c. sym (true-rows-before-lasts3 c .true-rows .kept .1 .1 .1 .1 .1 .0))
     offset-frames-requires
-    (λ c. omega (arith, valid (c .before .before .before .before .before .before .before .before .before .before .before .before .before .before .before .before .before .before .before .before .before .before .before .before .before) .shallow))
-    (λ c. omega (arith, valid (c .before .before .before .before .before .before .before .before .before .before .before .before .before .before .before .before .before .before .before .before .before .before .before .before .before) .shallow))
-    (λ c. omega (arith, valid (c .before .before .before .before .before .before .before .before .before .before .before .before .before .before .before .before .before .before .before .before .before .before .before .before .before .before) .wide-most))
-    (λ c. let v = valid (c .before .before .before .before .before .before .before .before .before .before .before .before .before .before .before .before .before .before .before .before .before .before .before .before .before .before) in omega (arith, v .wide-most, v .shallow))
-    (λ c κs. c .before .before .before .before .before .before .before .before .before .before .before .before .before .before .before .before .before .before .before .before .before .before .before .before .before .before .pre .3)
-    (λ c. omega (arith, valid (c .before .before .before .before .before .before .before .before .before .before .before .before .before .before .before .before .before .before .before .before .before .before .before .before .before .before .before .before) .wide-most))
+    (λ c κs. valid (start (true-rows-before-slice-known6 c)))
+    (λ f κs. (valid (entry f), lit< tt))
+    (λ o κs. entry (o .before) .pre .3)
+    (λ c. omega (arith, valid (entry (c .before .before .before)) .wide-most))
     absorb-column-requires
     (λ c. refl)
     (λ c κs. tt)
-    (λ c. c .before .before .before .before .before .before .before .before .before .before .before .before .before .before .before .before .before .before .before .before .before .before .before .before .before .before .draw .kept .1 .1 .0)
-    (λ c. c .before .before .before .before .before .before .before .before .before .before .before .offset-frames .kept .1 .1 .1 .1 .1 .0)
+    (λ c. rows-made (frame-length-before-h2 c) .before .before .before .before .before .before .before .before .before .draw .kept .1 .1 .0)
+    (λ c. made (frame-length-before-h2 c) .offset-frames .kept .1 .1 .1 .1 .1 .0)
     returns)

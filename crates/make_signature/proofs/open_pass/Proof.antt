@@ -1,8 +1,10 @@
 -- `make_signature::open_pass` meets its contract: the second challenges are those of h2, and what is absorbed is what h3 binds. Assumes nothing.
 use mathlib.Core.Path.{_≡_, refl, ap, _∙_}
 use mathlib.Core.List.{List, _∷_}
-use Prim.Native.Nat.{ℕ, _*_, _+_, _-_}
+use Prim.Native.Nat.{ℕ, _*_, _-_}
+use native.Mathlib.Nat.{le-trans}
 use native.Mathlib.Omega.{arith}
+use lib.Dec.{lit≤}
 use lib.ListN.{length, take, replicate, length-take}
 use borrow.Rule.Slice.PartMut.{same-len-mid}
 use Rattle.slices.specs.Bytes.{bytes-of}
@@ -10,22 +12,40 @@ use Rattle.slices.proofs.Put.{front-long}
 use Rattle.shake.specs.Shake128.{shake128}
 use Rattle.scratch.proofs.Laws.{scratch-front}
 use Rattle.sets.specs.Valid.{Valid}
-use Rattle.make_signature.proofs.Laws.{shares-most, shares-long, seconds-most}
+use Rattle.sets.specs.Bounds.{rows-most, seconds-most}
+use Rattle.make_signature.proofs.Laws.{parties-lent}
 use Rattle.make_signature.proofs.Hashes.{opened-right, third-hashed}
 use Rattle.make_signature.proofs.open_pass.Statement.{statement}
 use Rattle.make_signature.proofs.open_pass.Tie as tie
+
+-- ---- earlier moments
+
+abbrev draw-before-open-frames-arg3 : tie.After-open-frames-arg3 → tie.After-draw
+draw-before-open-frames-arg3 c = c .before .before .before .before .before .before .before
+
+abbrev open-frames-before-h2 : tie.After-h2 → tie.After-open-frames
+open-frames-before-h2 c = c .before .before .before .before .before .before .before .before
+
+abbrev start-before-struct-known : tie.After-struct-known → tie.Start
+start-before-struct-known c = c .before .before .before .before .before .before .before .before
+
+abbrev start-before-slice-known3 : tie.After-slice-known3 → tie.Start
+start-before-slice-known3 c = c .before .before .before .before .before .before .before .before .before .before .before .before .before .before .before
 
 valid : (s : tie.Start) → Valid (s .args .shape)
 valid s = s .pre .0 .valid
 
 abbrev zeros : List ℕ
-zeros = replicate 1536 0
+zeros = replicate 246 0
 
 -- ---- the second challenges' bytes
 
 module _ (d : tie.After-draw) where
   abbrev start : tie.Start
   start = d .before .before .before .before .before .before .before .before .before .before .before .before .before
+
+  abbrev sized : tie.After-row-length
+  sized = d .before .before .before .before
 
   abbrev size : ℕ
   size = start .args .shape .executions * start .args .shape .wide
@@ -38,17 +58,17 @@ module _ (d : tie.After-draw) where
 
 open-frames-requires : tie.Need-open-frames-requires
 open-frames-requires c κs =
-    let d = c .before .before .before .before .before .before .before in
+    let d = draw-before-open-frames-arg3 c in
     let s = start d in
     let p = s .pre in (
       valid s,
       p .2,
       p .3,
-      omega (arith, length-take 16 (s .args .public .now), p .1),
+      omega (arith, length-take 16 (s .args .public .now), p .1, valid s .plaintext),
       p .5,
       d .draw .kept .1 .1 .0 ∙ asked d,
       p .0 .frames-size,
-      shares-long (valid s) (s .args .work .now) (p .6),
+      parties-lent (valid s) (sized d .row-length .ensures .0) (le-trans (sized d .row-length .ensures .1) (lit≤ tt)) (s .args .work .now) (p .6),
     )
 
 -- ---- the sums, and h3
@@ -62,11 +82,11 @@ module _ (x : tie.After-open-frames) where
 
   -- the front of the work slice
   abbrev lent : ℕ
-  lent = entry .args .shape .parties * (16 + 21 * entry .args .shape .wide)
+  lent = entry .args .shape .parties * sized drawn .row-length .result
 
 returns : tie.Need-returns
 returns c =
-    let x = c .before .before .before .before .before .before .before .before in
+    let x = open-frames-before-h2 c in
     let d = drawn x in
     let s = entry x in
     let a = s .args in
@@ -77,7 +97,7 @@ returns c =
       (
         opened-right (valid s) (a .h2 .now) (seconds-are d) front (a .salt .now) (a .roots .now) (a .firsts .now) (a .frames .now)
             (x .open-frames .ensures .0),
-        scratch-front (lent x) (a .work .now) (x .open-frames .last .1 .1 .1 .1 .1 .1 .1 .0) (omega (arith, shares-most (valid s))) (s .pre .6) (x .open-frames .kept .1 .1 .1 .1 .1 .1 .1 .0),
+        scratch-front (lent x) (a .work .now) (x .open-frames .last .1 .1 .1 .1 .1 .1 .1 .0) (omega (arith, rows-most (valid s) (sized d .row-length .ensures .1))) (s .pre .6) (x .open-frames .kept .1 .1 .1 .1 .1 .1 .1 .0),
       ),
     )
 
@@ -85,24 +105,23 @@ pub open-pass-spec : {M : Type 1} → statement M
 open-pass-spec =
     tie.close
     (tie.spec
-    (λ c. omega (arith, seconds-most (valid (c .before .before .before .before .before .before .before .before))))
-    (λ c. omega (arith, valid (c .before .before .before .before .before .before .before .before .before) .wide-most))
-    (λ c. omega (arith, valid (c .before .before .before .before .before .before .before .before .before) .wide-most))
-    (λ c. omega (arith, shares-most (valid (c .before .before .before .before .before .before .before .before .before .before))))
+    (λ c. omega (arith, seconds-most (valid (start-before-struct-known c))))
+    (λ c κs. valid (start-before-struct-known c))
+    (λ c. let z = c .before in omega (arith, rows-most (valid (start-before-struct-known (z .before))) (z .row-length .ensures .1)))
     (λ c. omega arith)
     (λ c. omega arith)
-    (λ c. omega (arith, seconds-most (valid (c .before .before .before .before .before .before .before .before .before .before))))
-    (λ c κs. c .before .before .before .before .before .before .before .before .before .before .before .before .pre .4)
-    (λ c κs. c .before .before .before .before .before .before .before .before .before .before .before .before .before .before .before .pre .4)
+    (λ c. omega (arith, seconds-most (valid (start-before-struct-known (c .before .before)))))
+    (λ c κs. start-before-struct-known (c .before .before .before .before) .pre .4)
+    (λ c κs. start-before-slice-known3 c .pre .4)
     (λ c. omega arith)
     (λ c. omega arith)
-    (λ c. omega (arith, c .before .before .before .before .before .before .before .before .before .before .before .before .before .before .before .before .pre .1))
+    (λ c. omega (arith, start-before-slice-known3 (c .before) .pre .1))
     (λ c. omega arith)
     (λ c. omega arith)
-    (λ c. let s = c .before .before .before .before .before .before .before .before .before .before .before .before .before .before .before .before .before .before .before in omega (arith, shares-most (valid s), s .pre .6))
+    (λ c. let d = c .before .before .before .before .before .before in omega (arith, rows-most (valid (start d)) (sized d .row-length .ensures .1), start d .pre .6))
     open-frames-requires
     (λ c. refl)
     (λ c κs. tt)
-    (λ c. c .before .before .before .before .before .before .before .before .open-frames .kept .1 .1 .1 .1 .1 .1 .0)
-    (λ c. let x = c .before .before .before .before .before .before .before .before in same-len-mid 0 (lent x - 0) (entry x .args .work .now) (x .open-frames .last .1 .1 .1 .1 .1 .1 .1 .0) (x .open-frames .kept .1 .1 .1 .1 .1 .1 .1 .0))
+    (λ c. open-frames-before-h2 c .open-frames .kept .1 .1 .1 .1 .1 .1 .0)
+    (λ c. let x = open-frames-before-h2 c in same-len-mid 0 (lent x - 0) (entry x .args .work .now) (x .open-frames .last .1 .1 .1 .1 .1 .1 .1 .0) (x .open-frames .kept .1 .1 .1 .1 .1 .1 .1 .0))
     returns)

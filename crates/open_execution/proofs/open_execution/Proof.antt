@@ -3,7 +3,7 @@ use mathlib.Core.Path.{subst}
 use Prim.Native.Nat.{_≤_, _<_}
 use native.Mathlib.Omega.{arith}
 use lib.ListN.{length}
-use Rattle.sets.specs.Bounds.{by-ten}
+use Rattle.sets.specs.Bounds.{columns-most}
 use Rattle.open_execution.specs.Answers.{key-refused, public-refused, salt-refused, first-refused, root-refused, output-refused, work-refused}
 use Rattle.open_execution.proofs.open_execution.Statement.{statement}
 use Rattle.open_execution.proofs.open_execution.Tie as tie
@@ -64,7 +64,7 @@ returns-6 c =
     let s = test1 .before .before .before .before .before .before .before .before in
     let a = s .args in
     output-refused (s .pre .0) (a .key .now) (a .public .now) (a .salt .now) (a .root .now) (a .first .now) (a .e) (a .second) (a .hidden) (a .out .now) (a .work .now)
-    (test1 .if1 .left) (test2 .if2 .left) (test3 .if3 .left) (test4 .if4 .left) (test5 .if5 .left) (subst (length (a .out .now) <_) (at-opening-length .opening-length .ensures) (c .if6 .taken))
+    (test1 .if1 .left) (test2 .if2 .left) (test3 .if3 .left) (test4 .if4 .left) (test5 .if5 .left) (subst (length (a .out .now) <_) (at-opening-length .opening-length .ensures .0) (c .if6 .taken))
 
 returns-7 : tie.Need-returns-7
 returns-7 c =
@@ -79,12 +79,12 @@ returns-7 c =
     let a = s .args in
     work-refused (s .pre .0) (a .key .now) (a .public .now) (a .salt .now) (a .root .now) (a .first .now) (a .e) (a .second) (a .hidden) (a .out .now) (a .work .now)
     (test1 .if1 .left) (test2 .if2 .left) (test3 .if3 .left) (test4 .if4 .left) (test5 .if5 .left)
-    (subst (_≤ length (a .out .now)) (at-opening-length .opening-length .ensures) (test6 .if6 .left)) (c .if7 .taken)
+    (subst (_≤ length (a .out .now)) (at-opening-length .opening-length .ensures .0) (test6 .if6 .left)) (c .if7 .taken)
 
 mul-if4 : tie.Need-mul-if4
 mul-if4 c =
     let s = c .before .before .before .before .before .before .before .before .before .before .before in
-    omega (arith, by-ten (s .pre .0) (s .args .shape .wide), s .pre .0 .wide-most)
+    omega (arith, columns-most (s .pre .0))
 
 opening-length-requires : tie.Need-opening-length-requires
 opening-length-requires c κs =
@@ -113,7 +113,7 @@ open-key-requires c κs =
         first-size = test4 .if4 .left;
       },
       p .1,
-      subst (_≤ length (s .args .out .now)) (at-opening-length .opening-length .ensures) (test6 .if6 .left),
+      subst (_≤ length (s .args .out .now)) (at-opening-length .opening-length .ensures .0) (test6 .if6 .left),
       test7 .if7 .left,
     )
 

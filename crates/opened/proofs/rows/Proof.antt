@@ -1,21 +1,23 @@
 -- `opened::rows` meets its contract: the loop fills the slice. Assumes nothing.
 use Prim.Native.Nat.{_-_}
+use native.Mathlib.Nat.{mul-comm}
 use native.Mathlib.Omega.{arith}
 use borrow.Author.Needs.{needs}
 use Rattle.slices.proofs.Fill.{Filling, filling-none, filling-more, filling-all}
-use Rattle.sets.specs.Bounds.{all-sboxes}
 use Rattle.forms.specs.Point.{tabledRow}
 use Rattle.opened.proofs.rows.Statement.{statement}
 use Rattle.opened.proofs.rows.Tie as tie
 
 abbrev Inv-loop : tie.InvT-loop
-Inv-loop shape bytes tables out₀ j₀ j-end out j = Filling (tabledRow shape bytes tables) 10 out₀ j out
+Inv-loop shape bytes tables out₀ j₀ j-end out j = Filling (tabledRow shape bytes tables) (shape .m1) out₀ j out
 
 abbrev μ-loop : tie.MeasureT-loop
-μ-loop shape bytes tables out₀ j₀ j-end out j = 10 - j
+μ-loop shape bytes tables out₀ j₀ j-end out j = shape .m1 - j
 
 dot-tables-requires : tie.Need-dot-tables-requires Inv-loop μ-loop
-dot-tables-requires c κs = omega (arith, all-sboxes (c .before .before .before .before .before .pre .0))
+dot-tables-requires c κs =
+    let s = c .before .before .before .before .before in
+    omega (arith, s .pre .0 .twenty, mul-comm (s .args .shape .m1) (s .args .shape .m2))
 
 loop-again : tie.Need-loop-again Inv-loop μ-loop
 loop-again c = filling-more (c .before .before .loop .inv) (omega arith) (c .dot-tables .ensures)

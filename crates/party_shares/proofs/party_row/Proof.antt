@@ -1,25 +1,45 @@
 -- `party_shares::party_row` meets its contract: the shares are written one after the other. Assumes nothing.
-use mathlib.Core.Path.{_≡_, refl, sym, _∙_}
+use mathlib.Core.Path.{_≡_, refl, _∙_}
 use mathlib.Core.List.{List}
 use Prim.Native.Nat.{ℕ, _+_, _-_, _*_, _≤_, zero-le}
 use native.Mathlib.Nat.{le-refl}
-use lib.ListN.{length}
+use native.Mathlib.Omega.{arith}
+use lib.ListN.{length, replicate}
 use lib.Seq.{length-take-le}
 use borrow.Author.Needs.{needs}
 use borrow.Rule.Slice.PartMut.{putMid, same-len-mid}
 use Rattle.slices.specs.Numbers.{bytesOf, length-bytesOf}
+use Rattle.sets.specs.Bounds.{all-sboxes}
+use Rattle.sets.specs.Room.{sboxes-lent}
 use Rattle.party_shares.proofs.Laws.{rest-long, row-size, few-bytes, c-word, output-room, c-room, row-is, put-row}
 use Rattle.party_shares.proofs.party_row.Statement.{statement}
 use Rattle.party_shares.proofs.party_row.Tie as tie
 
+-- ---- earlier moments
+
+abbrev start-before-struct-known : tie.After-struct-known → tie.Start
+start-before-struct-known c = c .before .before .before .before .before .before .before .before .before .before
+
+abbrev start-before-slice-known3 : tie.After-slice-known3 → tie.Start
+start-before-slice-known3 c = c .before .before .before .before .before .before .before .before .before .before .before .before .before .before .before .before .before .before .before
+
+abbrev store-before-opened-row : tie.After-opened-row → tie.After-store
+store-before-opened-row c = c .before .before .before .before .before .before .before
+
+abbrev walk-before-copy : tie.After-copy → tie.After-walk
+walk-before-copy c = c .before .before .before .before .before .before .before
+
 abbrev walked : tie.After-store-arg → tie.After-walk
-walked c = c .before .before .before .before .before .before .before .before .before
+walked c = c .before .before .before .before .before .before .before .before .before .before .before
 
 abbrev start : tie.After-store-arg → tie.Start
-start c = walked c .before .before .before .before .before .before .before .before .before .before .before .before
+start c = walked c .before .before .before .before .before .before .before .before .before .before .before .before .before .before .before
 
 abbrev wide : tie.After-store-arg → ℕ
 wide c = start c .args .shape .wide
+
+abbrev columns : tie.After-store-arg → ℕ
+columns c = start c .args .shape .m1
 
 abbrev lent : tie.After-store-arg → List ℕ
 lent c = start c .args .out .now
@@ -29,7 +49,7 @@ output c = c .before .before .before .before .copy .last .0
 
 -- before c is stored, the output's share being in its place
 module _ (c : tie.After-store-arg) where
-  size : length (lent c) ≡ 16 + wide c + 20 * wide c
+  size : length (lent c) ≡ 16 + wide c + 2 * (columns c * wide c)
   size = row-size (start c .pre .0 .valid) (start c .pre .2)
 
   copied : length (output c) ≡ 16
@@ -43,7 +63,7 @@ module _ (c : tie.After-store) where
   same : length (c .store .last .0) ≡ length (lent (c .before))
   same = c .store .kept .0 ∙ room (c .before)
 
-  long : length (c .store .last .0) ≡ 16 + wide (c .before) + 20 * wide (c .before)
+  long : length (c .store .last .0) ≡ 16 + wide (c .before) + 2 * (columns (c .before) * wide (c .before))
   long = same ∙ size (c .before)
 
   at-fits : 16 + wide (c .before) ≤ length (c .store .last .0)
@@ -51,18 +71,18 @@ module _ (c : tie.After-store) where
 
 walk-requires : tie.Need-walk-requires
 walk-requires c κs =
-    let s = c .before .before .before .before .before .before .before .before .before .before .before in
-    let g = s .pre .0 in (g .valid, g .front-size, g .key-size, g .inverses-size, s .pre .1, refl, refl)
+    let s = start-before-struct-known (c .before .before .before .before) in
+    let g = s .pre .0 in
+    let lent = sboxes-lent (g .valid) (replicate 200 0) refl in (g .valid, g .front-size, g .key-size, g .inverses-size, s .pre .1, lent, lent)
 
 copy-fits : tie.Need-part-copy-end
 copy-fits c =
-    let s = c .before .before .before .before .before .before .before .before .before .before .before .before .before .before in
+    let s = start-before-slice-known3 c in
     let v = s .pre .0 .valid in output-room v (row-size v (s .pre .2))
 
 opened-c-requires : tie.Need-opened-c-requires
 opened-c-requires c κs =
-    let w = c .before .before .before .before .before .before .before in
-    let s = w .before .before .before .before .before .before .before .before .before .before .before .before in
+    let s = start-before-slice-known3 (c .before .before .before .before .before) in
     let g = s .pre .0 in (g .valid, g .products-size, s .pre .1, g .far-size)
 
 store-requires : tie.Need-store-requires
@@ -78,19 +98,19 @@ opened-row-requires c κs =
       g .valid,
       g .first-size,
       g .tables-size,
-      w .kept .1 .1 .1 .1 .1 .1 .1 .0,
-      w .kept .1 .1 .1 .1 .1 .1 .0,
+      w .kept .1 .1 .1 .1 .1 .1 .1 .0 ∙ sboxes-lent (g .valid) (replicate 200 0) refl,
+      w .kept .1 .1 .1 .1 .1 .1 .0 ∙ sboxes-lent (g .valid) (replicate 200 0) refl,
       s .pre .1,
       rest-long l l (16 + s .args .shape .wide) refl (long k),
     )
 
 returns : tie.Need-returns
 returns c =
-    let r = c .before .before in
-    let k = r .before .before .before .before .before .before .before in
+    let r = c .before .before .before .before in
+    let k = store-before-opened-row r in
     let o = k .before .before in
     let y = o .before .before .before in
-    let w = y .before .before .before .before .before in
+    let w = walk-before-copy y in
     let s = start (k .before) in
     let a = s .args in
     let n = a .shape .wide in
@@ -106,8 +126,8 @@ returns c =
 
 same-length : tie.Need-same-length
 same-length c =
-    let r = c .before .before in
-    let k = r .before .before .before .before .before .before .before in
+    let r = c .before .before .before .before in
+    let k = store-before-opened-row r in
     let l = k .store .last .0 in
     let at = 16 + wide (k .before) in
     same-len-mid at (length l - at) l (r .opened-row .last .1 .1 .1 .1 .1 .1 .1 .0) (r .opened-row .kept .1 .1 .1 .1 .1 .1 .1 .0) ∙ same k
@@ -115,10 +135,10 @@ same-length c =
 pub party-row-spec : {M : Type 1} → statement M
 party-row-spec =
     tie.close
-    (tie.spec (λ c. refl) (λ c. refl) walk-requires (λ c. zero-le) (λ c. zero-le)
-    copy-fits (λ c. search needs) (λ c κs. search needs)
-    opened-c-requires store-requires (λ c. c-word (start (c .before .before .before .before) .pre .0 .valid))
-    (λ c. sym (walked (c .before .before .before .before .before) .walk .kept .1 .1 .1 .1 .1 .1 .1 .0))
-    (λ c. sym (walked (c .before .before .before .before .before .before) .walk .kept .1 .1 .1 .1 .1 .1 .0))
+    (tie.spec (λ c. let v = start-before-struct-known c .pre .0 .valid in omega (arith, all-sboxes v, v .columns)) (λ c. zero-le) (λ c. zero-le)
+    (λ c. let v = start-before-struct-known c .pre .0 .valid in omega (arith, all-sboxes v, v .columns)) (λ c. zero-le) (λ c. zero-le)
+    (λ c. let v = start-before-struct-known (c .before) .pre .0 .valid in omega (arith, all-sboxes v, v .columns)) walk-requires (λ c. zero-le) (λ c. zero-le)
+    copy-fits (λ c. search needs) (λ c κs. search needs) opened-c-requires store-requires
+    (λ c. c-word (start (c .before .before .before .before) .pre .0 .valid))
     (λ c. at-fits (c .before .before .before .before .before)) (λ c. at-fits (c .before .before .before .before .before)) (λ c. le-refl _)
     opened-row-requires same-length returns)

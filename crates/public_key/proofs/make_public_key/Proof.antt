@@ -4,9 +4,10 @@ use mathlib.Core.Path.{_≡_, sym, ap, _∙_}
 use Prim.Native.Nat.{ℕ, _≤_, zero-le}
 use native.Mathlib.Nat.{le-of-eq}
 use lib.ListN.{length, length-replicate}
+use lib.Dec.{lit≤}
+use Rattle.slices.proofs.Counts.{in-byte}
 use Rattle.aes.specs.Sizes.{length-aes}
 use Rattle.public_key.proofs.Laws.{
-  in-byte,
   plaintext-room,
   ciphertext-room,
   key-refused,
@@ -17,6 +18,11 @@ use Rattle.public_key.proofs.Laws.{
 }
 use Rattle.public_key.proofs.make_public_key.Statement.{statement}
 use Rattle.public_key.proofs.make_public_key.Tie as tie
+
+-- ---- earlier moments
+
+abbrev encrypt-before-ciphertext : tie.After-ciphertext → tie.After-encrypt
+encrypt-before-ciphertext c = c .before .before .before .before .before .before .before .before .before .before .before
 
 -- every length is right
 module _ (c : tie.Else3) where
@@ -66,9 +72,9 @@ make-public-key-spec =
     (λ c. sym (length-replicate {A = ℕ} 200 0))
     (λ c κs. (fits (c .before) .0, (fits (c .before) .1, length-replicate {A = ℕ} 200 0)))
     (λ c. zero-le) (λ c. zero-le)
-    (λ c. le-of-eq (sym (c .before .before .encrypt .kept .1 .1 .0 ∙ length-replicate {A = ℕ} 200 0))) (λ c κs. tt) (λ c. in-byte (c .if4 .taken)) returns-4
+    (λ c. le-of-eq (sym (c .before .before .encrypt .kept .1 .1 .0 ∙ length-replicate {A = ℕ} 200 0))) (λ c κs. tt) (λ c. in-byte (c .if4 .taken) (lit≤ tt)) returns-4
     (λ c κs. let f = fits (given (c .before .before)) in plaintext-room (f .1) (f .2))
-    (λ c. ciphertext-long (c .before .before .before .before .before .before .before .before .before .before .before)) copy-at-requires-2
+    (λ c. ciphertext-long (encrypt-before-ciphertext c)) copy-at-requires-2
     (λ c.
     let second = c .before .before in
     second .copy-at2 .kept .0 ∙ second .before .before .before .before .before .copy-at .kept .0)

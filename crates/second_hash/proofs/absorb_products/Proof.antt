@@ -2,45 +2,42 @@
 use mathlib.Core.Path.{_≡_, refl, ap, _∙_}
 use Prim.Native.Nat.{_-_, _≤_}
 use native.Mathlib.Omega.{arith}
+use lib.Dec.{lit<}
 use lib.ListN.{length}
 use borrow.Author.Needs.{needs}
 use Rattle.slices.specs.Lists.{rows}
 use Rattle.stream.specs.Stream.{absorbed}
-use Rattle.frames.specs.Frames.{frame-fits, length-frame}
+use Rattle.frames.specs.Frames.{length-frame}
 use Rattle.second_hash.proofs.Laws.{offsetsOf, one-more}
 use Rattle.second_hash.proofs.absorb_products.Statement.{statement}
 use Rattle.second_hash.proofs.absorb_products.Tie as tie
 
 abbrev Inv-loop : tie.InvT-loop
-Inv-loop shape s sizes n t₀ e₀ t e = (e ≤ n) × (t ≡ absorbed t₀ (rows (offsetsOf shape s) e))
+Inv-loop shape s n t₀ e₀ t e = (e ≤ n) × (t ≡ absorbed t₀ (rows (offsetsOf shape s) e))
 
 abbrev μ-loop : tie.MeasureT-loop
-μ-loop shape s sizes n t₀ e₀ t e = n - e
+μ-loop shape s n t₀ e₀ t e = n - e
 
 abbrev start : tie.At-loop Inv-loop μ-loop → tie.Start Inv-loop μ-loop
-start k = k .before .before .before
+start k = k .before .before
 
 loop-holds : tie.Need-loop-holds Inv-loop μ-loop
 unfolding absorbed
 loop-holds c = (omega arith, refl)
 
-field-requires : tie.Need-field-requires Inv-loop μ-loop
-field-requires c κs =
-    let f = c .before in
-    let k = f .before .before in
-    let s = start k in
-    let long = ap length (f .frame .ensures) ∙ length-frame (s .args .shape) (s .args .s .now) (s .pre .1) (f .before .loop-test .taken) in
-    frame-fits (s .pre .0) (f .frame .result .now) (k .before .frame-sizes .ensures) long _ (omega arith)
+part-requires : tie.Need-part-requires Inv-loop μ-loop
+part-requires c κs =
+    let s = start (c .before .before) in
+    (s .pre .0, lit< tt, ap length (c .frame .ensures) ∙ length-frame (s .args .shape) (s .args .s .now) (s .pre .1) (c .before .loop-test .taken))
 
 loop-again : tie.Need-loop-again Inv-loop μ-loop
 loop-again c =
     let p = c .before in
-    let f = p .before .before in
+    let f = p .before in
     let k = f .before .before in
     let a = start k .args in (
       omega arith,
-      one-more (a .shape) (a .s .now) (k .loop .e) (a .start) (k .before .frame-sizes .ensures) (f .frame .ensures) (p .field .ensures)
-          (k .loop .inv .1) (c .absorb .ensures),
+      one-more (a .shape) (a .s .now) (k .loop .e) (a .start) (f .frame .ensures) (p .part .ensures) (k .loop .inv .1) (c .absorb .ensures),
     )
 
 returns : tie.Need-returns Inv-loop μ-loop
@@ -52,5 +49,5 @@ returns c =
 pub absorb-products-spec : {M : Type 1} → statement M
 absorb-products-spec =
     tie.close
-    (tie.spec Inv-loop μ-loop (λ c κs. search needs) loop-holds (λ c κs. search needs) (λ c. search needs) field-requires
-    (λ c κs. search needs) (λ c. search needs) (λ c. search needs) loop-again returns)
+    (tie.spec Inv-loop μ-loop loop-holds (λ c κs. search needs) part-requires (λ c κs. search needs) (λ c. search needs)
+    (λ c. search needs) loop-again returns)

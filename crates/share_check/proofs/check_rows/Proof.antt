@@ -3,10 +3,15 @@ use Prim.Native.Nat.{zero-le}
 use native.Mathlib.Omega.{arith}
 use lib.Dec.{lit≤}
 use borrow.Author.Needs.{needs}
-use Rattle.share_check.proofs.Halves.{half-le}
+use Rattle.slices.proofs.Counts.{half-most}
 use Rattle.share_check.proofs.Rows.{key-size, read-lengths, halves-checked}
 use Rattle.share_check.proofs.check_rows.Statement.{statement}
 use Rattle.share_check.proofs.check_rows.Tie as tie
+
+-- ---- earlier moments
+
+abbrev fill-rows-before-compare-rows : tie.After-compare-rows → tie.After-fill-rows
+fill-rows-before-compare-rows c = c .before .before .before .before .before .before .before
 
 abbrev start : tie.After-fill-rows → tie.Start
 start f = f .before .before .before .before .before .before
@@ -20,7 +25,7 @@ compare-rows-requires c κs =
 
 returns : tie.Need-returns
 returns c =
-    let f = c .before .before .before .before .before .before .before in
+    let f = fill-rows-before-compare-rows c in
     let s = start f in (
       halves-checked (s .pre .0) (s .args .seeds .now) (f .fill-rows .last .1 .1 .1 .1 .1 .1 .0) (f .fill-rows .ensures) (s .args .hidden)
           (c .compare-rows .ensures),
@@ -30,5 +35,5 @@ returns c =
 pub check-rows-spec : {M : Type 1} → statement M
 check-rows-spec =
     tie.close
-    (tie.spec (λ c κs. (c .before .before .before .before .before) .pre) (λ c. lit≤ tt) (λ c. lit≤ tt) (λ c. omega (arith, key-size ((c .before .before .before .before .before .before .before .before) .pre .0))) (λ c. half-le _) (λ c. half-le _)
-    (λ c. search needs) (λ c. zero-le) (λ c. zero-le) (λ c. half-le _) compare-rows-requires (λ c. search needs) returns)
+    (tie.spec (λ c κs. (c .before .before .before .before .before) .pre) (λ c. lit≤ tt) (λ c. lit≤ tt) (λ c. omega (arith, key-size ((start (c .before .before)) .pre .0))) (λ c. half-most _) (λ c. half-most _)
+    (λ c. search needs) (λ c. zero-le) (λ c. zero-le) (λ c. half-most _) compare-rows-requires (λ c. search needs) returns)

@@ -14,7 +14,7 @@ start c = c .before .before .before .before
 first-difference-requires : tie.Need-first-difference-requires
 first-difference-requires c κs =
     let s = start c in
-    let same = ap (s .args .shape .parties *_) (sym (c .row-length .ensures)) in
+    let same = ap (s .args .shape .parties *_) (sym (c .row-length .ensures .0)) in
     (s .pre .1 ∙ same, s .pre .2 ∙ same)
 
 returns : tie.Need-returns
@@ -23,12 +23,12 @@ returns c =
     let r = d .before in
     let s = start r in
     row-differs (s .args .shape) (s .args .ciphertext .now) (s .args .e) (s .args .hidden) (s .args .made .now) (s .args .stated .now)
-    (r .row-length .ensures) (d .first-difference .ensures) (c .if1 .taken)
+    (r .row-length .ensures .0) (d .first-difference .ensures) (c .if1 .taken)
 
 part-sums-end : tie.Need-part-sums-end
 part-sums-end c =
     let r = c .before .before .before in
-    omega (arith, row-most (start r .pre .0), r .row-length .ensures)
+    omega (arith, row-most (start r .pre .0), r .row-length .ensures .0)
 
 returns-2 : tie.Need-returns-2
 returns-2 c =
@@ -38,10 +38,10 @@ returns-2 c =
     let r = d .before in
     let s = start r in
     rows-agree (s .args .shape) (s .args .ciphertext .now) (s .args .e) (s .args .hidden) (s .args .made .now) (s .args .stated .now)
-    (r .row-length .ensures) (d .first-difference .ensures) (t .if1 .left) (k .check-sums .ensures .0)
+    (r .row-length .ensures .0) (d .first-difference .ensures) (t .if1 .left) (k .check-sums .ensures .0)
 
 pub compare-rows-spec : {M : Type 1} → statement M
 compare-rows-spec =
     tie.close
-    (tie.spec (λ c κs. (c .before .before .before) .pre .0) first-difference-requires (λ c. omega (arith, c .if1 .taken, (c .before .before .before .before .before .before .before) .pre .0 .few)) returns (λ c. zero-le)
+    (tie.spec (λ c κs. (c .before .before .before) .pre .0) first-difference-requires (λ c. omega (arith, c .if1 .taken, (start (c .before .before .before)) .pre .0 .few)) returns (λ c. zero-le)
     (λ c. zero-le) part-sums-end (λ c κs. search needs) returns-2)

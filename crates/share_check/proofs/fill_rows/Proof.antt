@@ -8,12 +8,27 @@ use lib.ListN.{length, getD}
 use borrow.Rule.Slice.PartMut.{putMid, same-len-mid}
 use Rattle.slices.specs.Layout.{total, field}
 use Rattle.banquet.specs.Shape.{transcriptSizes}
-use Rattle.sets.specs.Bounds.{rowSizes, all-sboxes}
+use Rattle.sets.specs.Bounds.{rowSizes}
 use Rattle.stated.proofs.Laws.{transcript-fits, field-size}
-use Rattle.share_check.proofs.Halves.{half-le, first-lent, second-lent, halves-put}
+use Rattle.slices.proofs.Counts.{half-most}
+use Rattle.share_check.proofs.Halves.{first-lent, second-lent, halves-put}
 use Rattle.share_check.proofs.Rows.{second-fits, key-size, front-size, stated-length, made-right}
 use Rattle.share_check.proofs.fill_rows.Statement.{statement}
 use Rattle.share_check.proofs.fill_rows.Tie as tie
+
+-- ---- earlier moments
+
+abbrev rows-before-field5 : tie.After-field5 → tie.After-rows
+rows-before-field5 c = c .before .before .before .before .before .before .before .before
+
+abbrev field-before-share-rows : tie.After-share-rows → tie.After-field
+field-before-share-rows c = c .before .before .before .before .before .before .before
+
+abbrev start-before-field : tie.After-field → tie.Start
+start-before-field c = c .before .before .before .before .before .before .before .before .before .before .before
+
+abbrev transcript-sizes-before-share-rows-arg : tie.After-share-rows-arg → tie.After-transcript-sizes
+transcript-sizes-before-share-rows-arg c = c .before .before .before .before .before .before .before
 
 -- ---- where the sizes are known
 
@@ -58,7 +73,7 @@ module _ (r : tie.After-rows) where
 
 share-rows-requires : tie.Need-share-rows-requires
 share-rows-requires c κs =
-    let r = (c .before .before .before .before .before .before .before .before .before) in
+    let r = (rows-before-field5 (c .before)) in
     let z = z1 r in
     let p = start z .pre in (
       p .0 .valid,
@@ -66,7 +81,7 @@ share-rows-requires c κs =
       p .1,
       front-size (p .0),
       size z 4 ((c .before .before .before .before) .field2 .ensures),
-      size z 5 ((c .before .before .before) .field3 .ensures) ∙ all-sboxes (p .0 .valid),
+      size z 5 ((c .before .before .before) .field3 .ensures),
       size z 6 ((c .before .before) .field4 .ensures),
       size z 7 (c .before .field5 .ensures),
       second-fits (p .0),
@@ -76,24 +91,24 @@ share-rows-requires c κs =
 same-length : tie.Need-same-length
 same-length c =
     let x = (c .before .before) in
-    let r = (x .before .before .before .before .before .before .before .before .before .before) in
+    let r = (rows-before-field5 (x .before .before)) in
     same-len-mid (length (w r) / 2) (length (w r) - length (w r) / 2) (written r) (x .share-rows .last .1 .1 .1 .1 .1 .1 .1 .1 .1 .1 .0)
     (x .share-rows .kept .1 .1 .1 .1 .1 .1 .1 .1 .1 .1 .0) ∙ written-long r
 
 returns : tie.Need-returns
 returns c =
     let x = (c .before .before) in
-    let r = (x .before .before .before .before .before .before .before .before .before .before) in
+    let r = (rows-before-field5 (x .before .before)) in
     let z = z1 r in
     let s = start z in
     halves-put (w r) (n z) (s .pre .2) (r .rows .ensures) (stated-length (s .pre .0) (s .args .seeds .now))
-    (made-right (s .pre .0) (s .args .seeds .now) (z .transcript-sizes .ensures) ((x .before .before .before .before .before .before .before) .field .ensures) refl ((x .before .before .before .before .before) .field2 .ensures)
+    (made-right (s .pre .0) (s .args .seeds .now) (z .transcript-sizes .ensures) ((field-before-share-rows x) .field .ensures) refl ((x .before .before .before .before .before) .field2 .ensures)
     ((x .before .before .before .before) .field3 .ensures) ((x .before .before .before) .field4 .ensures) ((x .before .before) .field5 .ensures) (x .share-rows .ensures))
 
 pub fill-rows-spec : {M : Type 1} → statement M
 fill-rows-spec =
     tie.close
-    (tie.spec (λ c κs. (c .before .before .before .before) .pre .0 .valid) (λ c. sym (ap length (c .before .transcript-sizes .ensures))) (λ c. zero-le) (λ c. zero-le) (λ c. half-le _)
-    rows-requires (λ c κs. asked (c .before .before .before .before .before) 0 (omega arith)) (λ c. lit≤ tt) (λ c. lit≤ tt) (λ c. omega (arith, key-size ((c .before .before .before .before .before .before .before .before .before .before .before) .pre .0)))
-    (λ c κs. asked (c .before .before .before .before .before .before .before) 4 (omega arith)) (λ c κs. asked (c .before .before .before .before .before .before .before .before) 5 (omega arith)) (λ c κs. asked (c .before .before .before .before .before .before .before .before .before) 6 (omega arith)) (λ c κs. asked (c .before .before .before .before .before .before .before .before .before .before) 7 (omega arith))
-    (λ c. half-le _) (λ c. half-le _) (λ c. omega (arith, written-long (c .before .before .before .before .before .before .before .before))) share-rows-requires same-length returns)
+    (tie.spec (λ c κs. (c .before .before .before .before) .pre .0 .valid) (λ c. sym (ap length (c .before .transcript-sizes .ensures))) (λ c. zero-le) (λ c. zero-le) (λ c. half-most _)
+    rows-requires (λ c κs. asked (c .before .before .before .before .before) 0 (omega arith)) (λ c. lit≤ tt) (λ c. lit≤ tt) (λ c. omega (arith, key-size ((start-before-field c) .pre .0)))
+    (λ c κs. asked (transcript-sizes-before-share-rows-arg c) 4 (omega arith)) (λ c κs. asked (transcript-sizes-before-share-rows-arg (c .before)) 5 (omega arith)) (λ c κs. asked (transcript-sizes-before-share-rows-arg (c .before .before)) 6 (omega arith)) (λ c κs. asked (transcript-sizes-before-share-rows-arg (c .before .before .before)) 7 (omega arith))
+    (λ c. half-most _) (λ c. half-most _) (λ c. omega (arith, written-long (rows-before-field5 c))) share-rows-requires same-length returns)

@@ -12,6 +12,7 @@ use borrow.Author.Needs.{needs}
 use borrow.Rule.Slice.PartMut.{putMid, same-len-mid}
 use borrow.Fn.Kinds.{In}
 use borrow.Fn.PlainCycle.{Measures, is, falls, and}
+use Rattle.slices.proofs.Counts.{half-most}
 use Rattle.nodes.proofs.Halves.{Halved, halved, join}
 use Rattle.tree.proofs.Halves.{first-half, second-half, middle, seeds-long}
 use Rattle.tree.proofs.Leaves.{shown-none, shown-left, shown-right}
@@ -45,9 +46,6 @@ left-fits h = omega (arith, h)
 
 right-fits : {v : ℕ} → v ≤ 254 → Fits w64 (2 * v + 2)
 right-fits h = omega (arith, h)
-
-half-most : (n : ℕ) → n / 2 ≤ n
-half-most n = omega arith
 
 one-seed : {n d : ℕ} → n ≡ d * 16 → 1 ≤ d → 16 ≤ n
 one-seed e h = omega (arith, e, h)

@@ -56,7 +56,7 @@ returns-6 c =
     let a = s .args in
     output-refused (s .pre) (a .key .now) (a .public .now) (a .message .now) (a .salt .now) (a .seeds .now) (a .out .now) (a .work .now)
     ((c .before .before .before .before .before .before .before) .if1 .left) ((c .before .before .before .before .before .before) .if2 .left) ((c .before .before .before .before .before) .if3 .left) ((c .before .before .before .before) .if4 .left) ((c .before .before) .if5 .left)
-    (subst (length (a .out .now) <_) ((c .before) .signature-length .ensures) (c .if6 .taken))
+    (subst (length (a .out .now) <_) ((c .before) .signature-length .ensures .0) (c .if6 .taken))
 
 returns-7 : tie.Need-returns-7
 returns-7 c =
@@ -64,7 +64,7 @@ returns-7 c =
     let a = s .args in
     work-refused (s .pre) (a .key .now) (a .public .now) (a .message .now) (a .salt .now) (a .seeds .now) (a .out .now) (a .work .now)
     ((c .before .before .before .before .before .before .before .before) .if1 .left) ((c .before .before .before .before .before .before .before) .if2 .left) ((c .before .before .before .before .before .before) .if3 .left) ((c .before .before .before .before .before) .if4 .left) ((c .before .before .before) .if5 .left)
-    (subst (_≤ length (a .out .now)) ((c .before .before) .signature-length .ensures) ((c .before) .if6 .left)) (c .if7 .taken)
+    (subst (_≤ length (a .out .now)) ((c .before .before) .signature-length .ensures .0) ((c .before) .if6 .left)) (c .if7 .taken)
 
 mul-if5 : tie.Need-mul-if5
 mul-if5 c =
@@ -85,7 +85,7 @@ sign-key-requires c κs =
         salt-size = (c .before .before .before .before .before .before .before) .if4 .left;
         seeds-size = (c .before .before .before .before .before) .if5 .left;
       },
-      subst (_≤ length (s .args .out .now)) ((c .before .before .before .before) .signature-length .ensures) ((c .before .before .before) .if6 .left),
+      subst (_≤ length (s .args .out .now)) ((c .before .before .before .before) .signature-length .ensures .0) ((c .before .before .before) .if6 .left),
       (c .before .before) .if7 .left,
     )
 

@@ -2,10 +2,14 @@
 use mathlib.Core.Path.{sym, ap, _∙_}
 use borrow.Author.Needs.{needs}
 use Rattle.slices.specs.Lists.{zipXor}
-use Rattle.sets.specs.Bounds.{all-sboxes}
 use Rattle.tapes.proofs.Laws.{part-long}
 use Rattle.signer.proofs.byte_offsets.Statement.{statement}
 use Rattle.signer.proofs.byte_offsets.Tie as tie
+
+-- ---- earlier moments
+
+abbrev start-before-tape-part2 : tie.After-tape-part2 → tie.Start
+start-before-tape-part2 c = c .before .before .before .before .before .before .before .before .before .before .before
 
 offset-of-requires : tie.Need-offset-of-requires
 offset-of-requires c κs =
@@ -16,9 +20,9 @@ offset-of-requires c κs =
 offset-of-requires-2 : tie.Need-offset-of-requires-2
 offset-of-requires-2 c κs =
     let at-tape-part2 = c .before in
-    let s = at-tape-part2 .before .before .before .before .before .before .before .before .before .before .before in (
+    let s = start-before-tape-part2 at-tape-part2 in (
       s .pre .2 ∙ sym (s .pre .5),
-      part-long (s .pre .0) 1 (s .args .sum .now) (s .pre .3) (at-tape-part2 .tape-part2 .ensures) ∙ all-sboxes (s .pre .0) ∙ sym (s .pre .5),
+      part-long (s .pre .0) 1 (s .args .sum .now) (s .pre .3) (at-tape-part2 .tape-part2 .ensures) ∙ sym (s .pre .5),
     )
 
 returns : tie.Need-returns

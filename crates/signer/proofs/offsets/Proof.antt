@@ -1,42 +1,43 @@
 -- `signer::offsets` meets its contract. Assumes nothing.
-use mathlib.Core.Path.{_≡_, sym, ap, _∙_}
-use Prim.Native.Nat.{ℕ, _-_, _≤_, zero-le}
+use mathlib.Core.Path.{_≡_, ap, _∙_}
+use Prim.Native.Nat.{ℕ, _-_, zero-le}
 use lib.ListN.{length, take, replicate}
 use Rattle.slices.specs.Lists.{zipXor}
 use Rattle.slices.specs.Layout.{total}
 use Rattle.banquet.specs.Shape.{tapeSizes}
-use Rattle.banquet.specs.Sets.{aesScheme}
+use Rattle.banquet.specs.Sets.{schemeOf}
 use Rattle.banquet.specs.Execution.{tapePart}
 use Rattle.forms.specs.Offsets.{workedOffsets}
 use Rattle.party_shares.proofs.Laws.{front-long}
-use Rattle.signer.proofs.Laws.{tapes-summed, few-parties, sizes-fit, size-is, tape-room, hash-room}
+use Rattle.signer.proofs.Laws.{tapes-summed, few-parties, hash-room}
 use Rattle.signer.proofs.offsets.Statement.{statement}
 use Rattle.signer.proofs.offsets.Tie as tie
 
-abbrev start : tie.After-offset → tie.Start
-start c = c .before .before .before .before .before .before .before .before .before .before .before .before .before .before
+-- ---- earlier moments
+
+abbrev hash-sum-before-product-offsets-arg : tie.After-product-offsets-arg → tie.After-hash-sum
+hash-sum-before-product-offsets-arg c = c .before .before .before .before .before .before .before .before .before .before .before
+
+abbrev start-before-slice-known3 : tie.After-slice-known3 → tie.Start
+start-before-slice-known3 c = c .before .before .before .before .before .before .before .before .before .before .before
+
+abbrev byte-offsets-before-slice-known7 : tie.After-slice-known7 → tie.After-byte-offsets
+byte-offsets-before-slice-known7 c = c .before .before .before .before .before .before .before .before .before
+
+abbrev start : tie.After-tape-length → tie.Start
+start c = c .before .before .before .before .before .before .before .before .before .before .before .before
 
 -- the room that is lent for the sum: as long as a tape
-module _ (c : tie.After-offset) where
-  size : c .offset .result ≡ total (tapeSizes (start c .args .shape))
-  size = size-is (start c .pre .0 .valid) (c .before .before .tape-sizes .ensures) (c .offset .ensures)
-
-  fits : c .offset .result ≤ 462
-  fits = tape-room (start c .pre .0 .valid) size
-
-  long : length {A = ℕ} (take (c .offset .result - 0) (replicate 462 0)) ≡ total (tapeSizes (start c .args .shape))
-  long = front-long (replicate 462 0) size fits
+module _ (c : tie.After-tape-length) where
+  long : length {A = ℕ} (take (c .tape-length .result - 0) (replicate 462 0)) ≡ total (tapeSizes (start c .args .shape))
+  long = front-long (replicate 462 0) (c .tape-length .ensures .0) (c .tape-length .ensures .1)
 
 -- and so it stays
-abbrev sized : tie.After-hash-sum → tie.After-offset
+abbrev sized : tie.After-hash-sum → tie.After-tape-length
 sized c = c .before .before .before
 
 kept : (c : tie.After-hash-sum) → length (c .hash-sum .last .1 .1 .1 .1 .1 .0) ≡ total (tapeSizes (start (sized c) .args .shape))
 kept c = c .hash-sum .kept .1 .1 .1 .1 .1 .0 ∙ long (sized c)
-
-offset-requires : tie.Need-offset-requires
-offset-requires c κs =
-    let t = c .before in sizes-fit (t .before .before .before .before .before .before .before .before .before .before .before .before .pre .0 .valid) (t .tape-sizes .ensures)
 
 hash-sum-requires : tie.Need-hash-sum-requires
 hash-sum-requires c κs =
@@ -51,7 +52,7 @@ byte-offsets-requires c κs =
 
 product-offsets-requires : tie.Need-product-offsets-requires
 product-offsets-requires c κs =
-    let h = c .before .before .before .before .before .before .before .before .before .before .before in
+    let h = hash-sum-before-product-offsets-arg c in
     let p = start (sized h) .pre in (p .0, kept h, p .5, p .8)
 
 returns : tie.Need-returns
@@ -63,9 +64,9 @@ returns c =
     let s = start k in
     let a = s .args in
     let sum = tapes-summed (s .pre .0 .valid) (a .salt .now) (a .seeds .now) (a .e) (long k) (at-hash-sum .hash-sum .ensures) in (
-      at-byte-offsets .byte-offsets .ensures .0 ∙ ap (λ t. zipXor (a .key .now) (tapePart (aesScheme (a .shape)) 0 t)) sum,
+      at-byte-offsets .byte-offsets .ensures .0 ∙ ap (λ t. zipXor (a .key .now) (tapePart (schemeOf (a .shape)) 0 t)) sum,
       (
-        at-byte-offsets .byte-offsets .ensures .1 ∙ ap (λ t. zipXor (a .inverses .now) (tapePart (aesScheme (a .shape)) 1 t)) sum,
+        at-byte-offsets .byte-offsets .ensures .1 ∙ ap (λ t. zipXor (a .inverses .now) (tapePart (schemeOf (a .shape)) 1 t)) sum,
         at-product-offsets .product-offsets .ensures
             ∙ ap (λ t. workedOffsets (a .shape) (a .us .now) (a .vs .now) (a .lasts .now) t (a .first .now)) sum,
       ),
@@ -74,9 +75,8 @@ returns c =
 pub offsets-spec : {M : Type 1} → statement M
 offsets-spec =
     tie.close
-    (tie.spec (λ c κs. c .before .before .before .before .before .before .before .before .before .before .before .pre .0 .valid)
-    (λ c. sym (ap length (c .before .tape-sizes .ensures))) offset-requires (λ c. zero-le) (λ c. zero-le)
-    fits hash-sum-requires byte-offsets-requires product-offsets-requires
-    (λ c. c .before .before .before .before .before .before .before .before .before .byte-offsets .kept .1 .1 .1 .1 .0)
-    (λ c. c .before .before .before .before .before .before .before .before .before .byte-offsets .kept .1 .1 .1 .1 .1 .0)
+    (tie.spec (λ c κs. start-before-slice-known3 c .pre .0 .valid)
+    (λ c. zero-le) (λ c. zero-le) (λ c. c .tape-length .ensures .1) hash-sum-requires byte-offsets-requires product-offsets-requires
+    (λ c. byte-offsets-before-slice-known7 c .byte-offsets .kept .1 .1 .1 .1 .0)
+    (λ c. byte-offsets-before-slice-known7 c .byte-offsets .kept .1 .1 .1 .1 .1 .0)
     (λ c. c .before .before .before .product-offsets .kept .1 .1 .1 .1 .1 .1 .0) returns)

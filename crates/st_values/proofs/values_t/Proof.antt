@@ -13,10 +13,15 @@ use Rattle.st_values.proofs.values_t.Tie as tie
 
 abbrev Inv-loop : tie.InvT-loop
 Inv-loop shape rows extra last out₀ bits j₀ j-end out j =
-    Filling (λ j. valueT shape (getD rows j 0) (getD extra (2 * j + 1) 0) last) 10 out₀ j out
+    Filling (λ j. valueT shape (getD rows j 0) (getD extra (2 * j + 1) 0) last) (shape .m1) out₀ j out
 
 abbrev μ-loop : tie.MeasureT-loop
-μ-loop shape rows extra last out₀ bits j₀ j-end out j = 10 - j
+μ-loop shape rows extra last out₀ bits j₀ j-end out j = shape .m1 - j
+
+-- ---- earlier moments
+
+abbrev start-before-shared-slice-known4 : tie.After-shared-slice-known4 Inv-loop μ-loop → tie.Start Inv-loop μ-loop
+start-before-shared-slice-known4 c = c .before .before .before .before .before .before .before .before
 
 loop-again : tie.Need-loop-again Inv-loop μ-loop
 unfolding valueT
@@ -33,5 +38,5 @@ values-t-spec =
     tie.close
     (tie.spec Inv-loop μ-loop (λ c. search needs) (λ c. search needs) (λ c. filling-none (c .before .before .before .before .pre .3))
     (λ c. search needs) (λ c. search needs) (λ c. search needs) (λ c. search needs) (λ c. search needs) (λ c. search needs)
-    (λ c κs. wide-field (c .before .before .before .before .before .before .before .before .pre .0) .fits)
+    (λ c κs. wide-field (start-before-shared-slice-known4 c .pre .0) .fits)
     (λ c. search needs) (λ c. search needs) (λ c. search needs) (λ c. search needs) loop-again (λ c. search needs) returns)

@@ -29,14 +29,14 @@ fits c = row-fits (len (c .before)) (c .loop-test .taken)
 -- all of them are the output
 whole : (r : tie.After-row-length Inv-loop μ-loop)
     → length (r .before .before .before .args .out .now) ≡ r .before .before .before .args .shape .parties * r .row-length .result
-whole r = let s = r .before .before .before in s .pre .2 ∙ ap (s .args .shape .parties *_) (sym (r .row-length .ensures))
+whole r = let s = r .before .before .before in s .pre .2 ∙ ap (s .args .shape .parties *_) (sym (r .row-length .ensures .0))
 
 stated-row-requires : tie.Need-stated-row-requires Inv-loop μ-loop
 stated-row-requires c κs =
     let k = c .before .before in
     let s = start k in
     let long = row-long (k .loop .i) (len k) (k .loop .out) (omega (arith, fits (c .before), k .loop .inv .1 .long)) in
-    (s .pre .0, s .pre .1, omega arith, long ∙ k .before .row-length .ensures)
+    (s .pre .0, s .pre .1, omega arith, long ∙ k .before .row-length .ensures .0)
 
 loop-again : tie.Need-loop-again Inv-loop μ-loop
 loop-again c =

@@ -8,7 +8,7 @@ use Rattle.slices.specs.Lists.{row}
 use Rattle.slices.specs.Layout.{field, total}
 use Rattle.slices.proofs.Put.{Wrote, wrote-none, wrote-more}
 use Rattle.banquet.specs.Shape.{transcriptSizes}
-use Rattle.sets.specs.Bounds.{by-ten}
+use Rattle.sets.specs.Bounds.{columns-most}
 use Rattle.stated.proofs.Laws.{transcript-row, row-long, stated-laid}
 use Rattle.stated.proofs.stated_row.Statement.{statement}
 use Rattle.stated.proofs.stated_row.Tie as tie
@@ -28,11 +28,11 @@ module _ (z : tie.After-transcript-sizes) where
   abbrev wide : ℕ
   wide = start .args .shape .wide
 
-  abbrev tens : ℕ
-  tens = start .args .shape .m1 * wide
+  abbrev elements : ℕ
+  elements = start .args .shape .m1 * wide
 
-  tens-most : tens ≤ 60
-  tens-most = omega (arith, by-ten (start .pre .0) wide, start .pre .0 .wide-most)
+  elements-most : elements ≤ 60
+  elements-most = columns-most (start .pre .0)
 
   -- row i of field k
   abbrev share : ℕ → ℕ → List ℕ
@@ -69,18 +69,18 @@ module _ (c : tie.After-copy-row3) where
   abbrev z3 : tie.After-transcript-sizes
   z3 = z2 (c .before .before .before .before)
 
-  wrote3 : Wrote (start z3 .args .out .now) ((([] ++ share z3 16 3) ++ share z3 (wide z3) 9) ++ share z3 (tens z3) 10) (0 + 16 + wide z3 + tens z3)
+  wrote3 : Wrote (start z3 .args .out .now) ((([] ++ share z3 16 3) ++ share z3 (wide z3) 9) ++ share z3 (elements z3) 10) (0 + 16 + wide z3 + elements z3)
       (c .copy-row3 .last .1 .1 .1 .1 .1 .0)
-  wrote3 = wrote-more (share z3 (tens z3) 10) (wrote2 (c .before .before .before .before)) (share-long z3 10 (tens z3) refl) (c .copy-row3 .ensures) (c .copy-row3 .kept .1 .1 .1 .1 .1 .0)
+  wrote3 = wrote-more (share z3 (elements z3) 10) (wrote2 (c .before .before .before .before)) (share-long z3 10 (elements z3) refl) (c .copy-row3 .ensures) (c .copy-row3 .kept .1 .1 .1 .1 .1 .0)
 
 module _ (c : tie.After-copy-row4) where
   abbrev z4 : tie.After-transcript-sizes
   z4 = z3 (c .before .before .before .before)
 
   wrote4 : Wrote (start z4 .args .out .now)
-      (((([] ++ share z4 16 3) ++ share z4 (wide z4) 9) ++ share z4 (tens z4) 10) ++ share z4 (tens z4) 11) (0 + 16 + wide z4 + tens z4 + tens z4)
+      (((([] ++ share z4 16 3) ++ share z4 (wide z4) 9) ++ share z4 (elements z4) 10) ++ share z4 (elements z4) 11) (0 + 16 + wide z4 + elements z4 + elements z4)
       (c .copy-row4 .last .1 .1 .1 .1 .1 .0)
-  wrote4 = wrote-more (share z4 (tens z4) 11) (wrote3 (c .before .before .before .before)) (share-long z4 11 (tens z4) refl) (c .copy-row4 .ensures) (c .copy-row4 .kept .1 .1 .1 .1 .1 .0)
+  wrote4 = wrote-more (share z4 (elements z4) 11) (wrote3 (c .before .before .before .before)) (share-long z4 11 (elements z4) refl) (c .copy-row4 .ensures) (c .copy-row4 .kept .1 .1 .1 .1 .1 .0)
 
 returns : tie.Need-returns
 returns c =
@@ -97,17 +97,17 @@ asked2 : tie.Need-copy-row-requires-2
 asked2 c κs = let d = (c .before .before .before) in let z = z1 d in asked z 9 (wide z) refl 16 (d .copy-row .last .1 .1 .1 .1 .1 .0) (omega arith) (omega (arith, start z .pre .3, wrote1 d .long))
 
 asked3 : tie.Need-copy-row-requires-3
-asked3 c κs = let d = (c .before .before .before) in let z = z2 d in asked z 10 (tens z) refl (16 + wide z) (d .copy-row2 .last .1 .1 .1 .1 .1 .0) (omega arith) (omega (arith, start z .pre .3, wrote2 d .long))
+asked3 c κs = let d = (c .before .before .before) in let z = z2 d in asked z 10 (elements z) refl (16 + wide z) (d .copy-row2 .last .1 .1 .1 .1 .1 .0) (omega arith) (omega (arith, start z .pre .3, wrote2 d .long))
 
 asked4 : tie.Need-copy-row-requires-4
 asked4 c κs =
     let d = (c .before .before .before) in
     let z = z3 d in
-    asked z 11 (tens z) refl (16 + wide z + tens z) (d .copy-row3 .last .1 .1 .1 .1 .1 .0) (omega arith) (omega (arith, start z .pre .3, wrote3 d .long))
+    asked z 11 (elements z) refl (16 + wide z + elements z) (d .copy-row3 .last .1 .1 .1 .1 .1 .0) (omega arith) (omega (arith, start z .pre .3, wrote3 d .long))
 
 pub stated-row-spec : {M : Type 1} → statement M
 stated-row-spec =
     tie.close
-    (tie.spec (λ c κs. (c .before .before) .pre .0) (λ c. sym (ap length (c .before .transcript-sizes .ensures))) (λ c. omega (arith, tens-most (c .before .before)))
-    (λ c. omega (arith, start (c .before .before .before) .pre .0 .wide-most)) (λ c. omega (arith, tens-most (c .before .before .before), start (c .before .before .before) .pre .0 .wide-most)) asked1 asked2 asked3 asked4
+    (tie.spec (λ c κs. (c .before .before) .pre .0) (λ c. sym (ap length (c .before .transcript-sizes .ensures))) (λ c. omega (arith, elements-most (c .before .before)))
+    (λ c. omega (arith, start (c .before .before .before) .pre .0 .wide-most)) (λ c. omega (arith, elements-most (c .before .before .before), start (c .before .before .before) .pre .0 .wide-most)) asked1 asked2 asked3 asked4
     (λ c. wrote4 (c .before .before) .long) returns)

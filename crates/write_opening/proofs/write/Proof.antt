@@ -10,11 +10,16 @@ use Rattle.slices.proofs.Put.{Wrote, wrote-one, lent-long, wrote-lent}
 use Rattle.shake.specs.Shake128.{shake128}
 use Rattle.banquet.specs.declared.Shape.{Shape}
 use Rattle.banquet.specs.Tree.{siblingSeeds}
-use Rattle.write_opening.specs.Written.{head, outputs, middle, opened, written}
+use Rattle.write_opening.specs.Written.{middleLength, head, outputs, middle, opened, written}
 use Rattle.write_opening.proofs.Laws.{wrote-first, wrote-put, wrote-whole, five}
 use Rattle.write_opening.proofs.Places.{whole}
 use Rattle.write_opening.proofs.write.Statement.{statement}
 use Rattle.write_opening.proofs.write.Tie as tie
+
+-- ---- earlier moments
+
+abbrev start-before-slice-known : tie.After-slice-known → tie.Start
+start-before-slice-known c = c .before .before .before .before .before .before .before .before .before
 
 -- the parts
 module _ (s : tie.Start) where
@@ -39,14 +44,14 @@ module _ (s : tie.Start) where
   abbrev p5 : List ℕ
   p5 = siblingSeeds shake128 (s .args .salt .now) (s .args .e) (S .depth) 0 (s .args .root .now) (s .args .hidden)
 
-  long : length out ≡ 33 + S .parties * 48 + (216 + 32 * S .wide) + (S .parties * S .wide + 2 * (S .parties * (S .m1 * S .wide))) + 1 + S .depth * 16
+  long : length out ≡ 33 + S .parties * 48 + middleLength S + (S .parties * S .wide + 2 * (S .parties * (S .m1 * S .wide))) + 1 + S .depth * 16
   long = s .pre .10 ∙ whole (s .pre .0)
 
   deep : (0 + 2) * 2 ^ S .depth ≤ 256
   deep = let few : 2 ^ S .depth ≤ 2 ^ 7 = pow-mono {i = S .depth} (s .pre .0 .shallow) in omega (arith, few)
 
 -- an index fits
-small : (c : tie.After-slice-known) → length (out (c .before .before .before .before .before .before .before .before .before)) < 2 ^ 64
+small : (c : tie.After-slice-known) → length (out (start-before-slice-known c)) < 2 ^ 64
 small c = omega arith
 
 -- what is written after each call, and how much is left
@@ -66,7 +71,7 @@ module _ (c : tie.After-write-head) where
       (c .write-head .kept .1 .1 .1 .1 .1 .0)
 
   left1 : length l1
-      ≡ b + (216 + 32 * S s1 .wide) + (S s1 .parties * S s1 .wide + 2 * (S s1 .parties * (S s1 .m1 * S s1 .wide))) + 1 + S s1 .depth * 16
+      ≡ b + middleLength (S s1) + (S s1 .parties * S s1 .wide + 2 * (S s1 .parties * (S s1 .m1 * S s1 .wide))) + 1 + S s1 .depth * 16
   left1 = omega (arith, w1 .long, long s1, c .write-head .ensures .2)
 
 module _ (c : tie.After-write-middle) where
@@ -123,7 +128,7 @@ module _ (c : tie.After-sibling-seeds) where
 
 write-head-requires : tie.Need-write-head-requires
 write-head-requires c κs =
-    let s = c .before .before .before .before .before .before .before .before .before .before in
+    let s = start-before-slice-known (c .before) in
     let p = s .pre in
     (p .0, p .1, p .4, p .9, omega (arith, long s))
 

@@ -8,7 +8,7 @@ use borrow.Author.Needs.{needs}
 use borrow.Rule.Slice.PartMut.{putMid}
 use Rattle.slices.specs.Lists.{rows, row}
 use Rattle.slices.proofs.Put.{Wrote, wrote-none, wrote-more, wrote-one, lent-long, wrote-lent}
-use Rattle.banquet.specs.Sets.{aesScheme}
+use Rattle.banquet.specs.Sets.{schemeOf}
 use Rattle.banquet.specs.Hash.{commitment}
 use Rattle.party.specs.Party.{partyHash}
 use Rattle.columns.specs.Column.{columnOf}
@@ -41,7 +41,7 @@ module _ (c : tie.After-row-length) where
   b = a + n * 16
 
   abbrev commits : List ℕ
-  commits = rows (λ i. commitment (aesScheme (start .args .shape)) salt e i (row 16 i (start .args .seeds .now))) n
+  commits = rows (λ i. commitment (schemeOf (start .args .shape)) salt e i (row 16 i (start .args .seeds .now))) n
 
   abbrev shares : List ℕ
   shares = outputs (start .args .shape) (start .args .rows .now)
@@ -92,7 +92,7 @@ module _ (c : tie.After-column) where
   w3 : Wrote (out r3) (((salt r3 ++ (e r3 ∷ [])) ++ commits r3) ++ shares r3) (b r3) l3
   w3 =
       wrote-lent (shares r3) (b r3) (w2 c2) (omega arith) (room r3)
-      (c .column .ensures ∙ ap (λ (k : ℕ). columnOf (n r3) k 0 16 (start r3 .args .rows .now)) (r3 .row-length .ensures))
+      (c .column .ensures ∙ ap (λ (k : ℕ). columnOf (n r3) k 0 16 (start r3 .args .rows .now)) (r3 .row-length .ensures .0))
       (c .column .kept .1 .1 .1 .1 .1 .0)
 
 hash-rows-requires : tie.Need-hash-rows-requires
@@ -106,8 +106,8 @@ column-requires : tie.Need-column-requires
 column-requires c κs =
     let k = c .before .before .before in
     let r = r2 k in (
-      start r .pre .3 ∙ ap (λ (k : ℕ). n r * k) (sym (r .row-length .ensures)),
-      omega (arith, r .row-length .ensures),
+      start r .pre .3 ∙ ap (λ (k : ℕ). n r * k) (sym (r .row-length .ensures .0)),
+      omega (arith, r .row-length .ensures .0),
       lent-long (b r) (w2 k) (room r) ∙ omega arith,
     )
 

@@ -1,15 +1,21 @@
 -- `write_opening::write_middle` meets its contract: each call writes the next field, and what stands before it is carried along. Assumes nothing.
-use mathlib.Core.Path.{_≡_, refl, _∙_}
+use mathlib.Core.Path.{_≡_, refl}
 use mathlib.Core.List.{List, _++_}
-use Prim.Native.Nat.{ℕ, _+_, _*_, _^_, _<_, _≤_}
+use Prim.Native.Nat.{ℕ, _+_, _^_, _<_, _≤_}
 use native.Mathlib.Omega.{arith}
 use lib.ListN.{length, take}
 use Rattle.slices.specs.Numbers.{bytesOf, length-bytesOf}
 use Rattle.slices.proofs.Put.{Wrote, wrote-more}
-use Rattle.sets.specs.Bounds.{by-ten, by-points}
+use Rattle.sets.specs.Bounds.{by-points}
+use Rattle.write_opening.specs.Written.{middleLength}
 use Rattle.write_opening.proofs.Laws.{wrote-here, placed5}
 use Rattle.write_opening.proofs.write_middle.Statement.{statement}
 use Rattle.write_opening.proofs.write_middle.Tie as tie
+
+-- ---- earlier moments
+
+abbrev copy-at-arg2-before-struct-known : tie.After-struct-known → tie.After-copy-at-arg2
+copy-at-arg2-before-struct-known c = c .before .before .before .before .before .before .before .before .before .before .before .before .before .before .before .before
 
 -- the fields and where they begin
 module _ (s : tie.Start) where
@@ -38,19 +44,16 @@ module _ (s : tie.Start) where
   second = bytesOf wide (s .args .second)
 
   abbrev p : ℕ
-  p = at + 16 + 200 + length first
+  p = at + 16 + length inverse + length first
 
   abbrev q : ℕ
   q = p + length product
 
-  ends : (p ≡ at + 216 + 10 * wide) × (q ≡ at + 216 + 31 * wide)
-  ends =
-      let f : length first ≡ 10 * wide = s .pre .3 ∙ by-ten (s .pre .0) wide in
-      let g : length product ≡ 21 * wide = s .pre .4 ∙ by-points (s .pre .0) wide in
-      (omega (arith, f), omega (arith, f, g))
+  ends : q + wide ≡ at + middleLength (s .args .shape)
+  ends = omega (arith, s .pre .2, s .pre .3, s .pre .4, by-points (s .pre .0) wide)
 
   room : q + wide ≤ length out
-  room = omega (arith, ends .1, s .pre .5)
+  room = omega (arith, ends, s .pre .5)
 
   begun : at ≤ length out
   begun = omega (arith, room)
@@ -67,8 +70,8 @@ module _ (c : tie.After-copy-at2) where
   abbrev s2 : tie.Start
   s2 = s1 (c .before .before .before .before)
 
-  w2 : Wrote (out s2) ((take (at s2) (out s2) ++ key s2) ++ inverse s2) (at s2 + 16 + 200) (c .copy-at2 .last .0)
-  w2 = wrote-more (inverse s2) (w1 (c .before .before .before .before)) (s2 .pre .2) (c .copy-at2 .ensures) (c .copy-at2 .kept .0)
+  w2 : Wrote (out s2) ((take (at s2) (out s2) ++ key s2) ++ inverse s2) (at s2 + 16 + length (inverse s2)) (c .copy-at2 .last .0)
+  w2 = wrote-more (inverse s2) (w1 (c .before .before .before .before)) refl (c .copy-at2 .ensures) (c .copy-at2 .kept .0)
 
 module _ (c : tie.After-copy-at3) where
   abbrev s3 : tie.Start
@@ -104,7 +107,7 @@ module _ (c : tie.After-slice-known) where
 
 add-result : tie.Need-add-result
 add-result c =
-    let e = c .before .before .before .before .before .before .before .before .before .before .before .before .before .before .before .before in
+    let e = copy-at-arg2-before-struct-known c in
     omega (arith, fits (e .before .before .before .before .before))
 
 returns : tie.Need-returns
@@ -112,7 +115,7 @@ returns c =
     let k = c .before .before .before in
     let s = s5 k in
     let w = placed5 (begun s) (key s) (inverse s) (first s) (product s) (second s) (w5 k) in
-    (w .0, w .1, omega (arith, ends s .1))
+    (w .0, w .1, omega (arith, ends s))
 
 pub write-middle-spec : {M : Type 1} → statement M
 write-middle-spec =
@@ -120,7 +123,7 @@ write-middle-spec =
     (tie.spec (λ c. omega (arith, fits c)) (λ c. omega (arith, fits c)) (λ c. omega (arith, fits c))
     (λ c. omega (arith, fits c))
     (λ c κs. let s = s0 (c .before) in omega (arith, room s, s .pre .1))
-    (λ c κs. let k = c .before .before .before in omega (arith, room (s1 k), s1 k .pre .2, w1 k .long))
+    (λ c κs. let k = c .before .before .before in omega (arith, room (s1 k), w1 k .long))
     (λ c κs. let k = c .before .before .before in omega (arith, room (s2 k), w2 k .long))
     (λ c κs. let k = c .before .before .before in omega (arith, room (s3 k), w3 k .long))
     (λ c κs. let k = c .before .before .before in (omega (arith, s4 k .pre .0 .wide-most), omega (arith, room (s4 k), w4 k .long)))

@@ -8,7 +8,7 @@ use borrow.Author.Needs.{needs}
 use borrow.Rule.Slice.PartMut.{putMid}
 use Rattle.slices.specs.Layout.{total}
 use Rattle.slices.proofs.Put.{Wrote, lent-long, wrote-lent}
-use Rattle.sets.specs.Bounds.{rowSizes, by-ten}
+use Rattle.sets.specs.Bounds.{rowSizes, columns-most}
 use Rattle.columns.specs.Column.{columnOf}
 use Rattle.write_opening.proofs.Laws.{wrote-here, placed3}
 use Rattle.write_opening.proofs.write_opened.Statement.{statement}
@@ -17,7 +17,7 @@ use Rattle.write_opening.proofs.write_opened.Tie as tie
 mul-row : tie.Need-mul-row
 mul-row c =
     let s = c .before .before .before in
-    omega (arith, by-ten (s .pre .0) (s .args .shape .wide), s .pre .0 .wide-most)
+    omega (arith, columns-most (s .pre .0))
 
 -- where the columns begin and end
 module _ (c : tie.After-row-length) where
@@ -56,13 +56,13 @@ module _ (c : tie.After-row-length) where
   col i len = columnOf n (total (rowSizes (start .args .shape))) i len (start .args .rows .now)
 
   col-is : (i len : ℕ) → columnOf n stride i len (start .args .rows .now) ≡ col i len
-  col-is i len = ap (λ (k : ℕ). columnOf n k i len (start .args .rows .now)) (c .row-length .ensures)
+  col-is i len = ap (λ (k : ℕ). columnOf n k i len (start .args .rows .now)) (c .row-length .ensures .0)
 
   stride-is : stride ≡ 16 + wide + row + row
-  stride-is = omega (arith, c .row-length .ensures)
+  stride-is = omega (arith, c .row-length .ensures .0)
 
   rows-long : length (start .args .rows .now) ≡ n * stride
-  rows-long = start .pre .1 ∙ ap (λ (k : ℕ). n * k) (sym (c .row-length .ensures))
+  rows-long = start .pre .1 ∙ ap (λ (k : ℕ). n * k) (sym (c .row-length .ensures .0))
 
   room : end ≤ length out
   room = omega (arith, start .pre .2)
