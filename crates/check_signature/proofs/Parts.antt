@@ -9,7 +9,19 @@ use Rattle.banquet.specs.declared.Shape.{Shape}
 use Rattle.banquet.specs.Shape.{frameSizes}
 use Rattle.banquet.specs.Sets.{schemeOf}
 use Rattle.banquet.specs.Execution.{outputShare}
-use Rattle.banquet.specs.Signature.{headPart, frameOf, framePart, h1Part, h3Part, completedOutput, frameCommitted, frameSeed, frameTape, frameH1Part, frameH3Part}
+use Rattle.banquet.specs.Signature.{
+  headPart,
+  frameOf,
+  framePart,
+  h1Part,
+  h3Part,
+  completedOutput,
+  frameCommitted,
+  frameSeed,
+  frameTape,
+  frameH1Part,
+  frameH3Part,
+}
 use Rattle.theorems.specs.Keys.{sized-front}
 use Rattle.theorems.specs.Shares.{Fits, sized-commitment, hashed-tape, sized-outputShare}
 use Rattle.sets.specs.Laws.{laws}
@@ -42,7 +54,8 @@ module _ {S : Shape} {publicKey s : List ℕ} (f : Files S publicKey s) {e : ℕ
     fits-inverses = sized-field (frameSizes S) 3 frame-sized;
   }
 
-  share-bytes : (i : ℕ) → Bytes (outputShare (schemeOf S) (frameCommitted (schemeOf S) publicKey salt h3 e frame) i (frameTape (schemeOf S) publicKey salt h3 e frame i))
+  share-bytes : (i : ℕ) → Bytes (outputShare (schemeOf S) (frameCommitted (schemeOf S) publicKey salt h3 e frame) i
+      (frameTape (schemeOf S) publicKey salt h3 e frame i))
   share-bytes i =
       sized-outputShare (schemeOf S) (laws (f .valid)) _ fits i
       (hashed-tape (schemeOf S) (laws (f .valid)) salt e i (frameSeed (schemeOf S) publicKey salt h3 e frame i)) .bytes

@@ -57,18 +57,18 @@ field-part (n ∷ sizes) (suc k) s = field-part sizes k (drop n s) ∙ ap (take 
 
 -- the part from where it begins to where the next begins
 module _ (sizes : List ℕ) (k : ℕ) {a e : ℕ} (begin : a ≡ total (take k sizes)) (end : e ≡ total (take (k + 1) sizes)) where
-  size : e ≡ a + getD sizes k 0
-  size = end ∙ ap (λ (n : ℕ). total (take n sizes)) (add-one k) ∙ total-take-suc sizes k ∙ ap (_+ getD sizes k 0) (sym begin)
+  pub field-end : e ≡ a + getD sizes k 0
+  field-end = end ∙ ap (λ (n : ℕ). total (take n sizes)) (add-one k) ∙ total-take-suc sizes k ∙ ap (_+ getD sizes k 0) (sym begin)
 
   pub field-order : a ≤ e
-  field-order = omega (arith, size)
+  field-order = omega (arith, field-end)
 
   pub field-fits : e ≤ total sizes
   field-fits = rw end (total-take-le sizes (k + 1))
 
   pub field-between : (s : List ℕ) → part a (e - a) s ≡ field sizes k s
   field-between s =
-      let n : e - a ≡ getD sizes k 0 = omega (arith, size) in
+      let n : e - a ≡ getD sizes k 0 = omega (arith, field-end) in
       rw (n, begin) (sym (field-part sizes k s))
 
 -- a list that has all of them, and maybe more

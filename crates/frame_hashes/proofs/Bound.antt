@@ -24,7 +24,19 @@ use Rattle.sets.specs.Bounds.{rowSizes}
 use Rattle.tree.specs.Rows.{row-shown}
 use Rattle.forms.specs.Party.{shareRow}
 use Rattle.frame_hashes.specs.Given.{Given}
-use Rattle.frame_hashes.specs.Frame.{seedShown, wholeRow, committedShown, challengeShown, frameCommitment, frameRow, shownH1, shownH3, outputs-are, shares-are, sums-are}
+use Rattle.frame_hashes.specs.Frame.{
+  seedShown,
+  wholeRow,
+  committedShown,
+  challengeShown,
+  frameCommitment,
+  frameRow,
+  shownH1,
+  shownH3,
+  outputs-are,
+  shares-are,
+  sums-are,
+}
 
 module _ {S : Shape} {publicKey salt : List ℕ} {hidden : ℕ} {first : List ℕ} {second : ℕ} {frame : List ℕ}
     (g : Given S publicKey salt hidden first second frame) (e : ℕ) where
@@ -49,7 +61,8 @@ module _ {S : Shape} {publicKey salt : List ℕ} {hidden : ℕ} {first : List �
     unfolding commitment partyHash
     commitments-shown {given} is k m o =
         o ∙ ap (λ d. put d (hidden * 32) given) m
-        ∙ put-row 32 (λ i. partyHash 0 salt e i (row 16 i seeds) 32) given parties hidden (λ i l. length-hash 0 salt e i (row 16 i seeds) 32) k (g .hidden-below)
+        ∙ put-row 32 (λ i. partyHash 0 salt e i (row 16 i seeds) 32) given parties hidden (λ i l. length-hash 0 salt e i (row 16 i seeds) 32) k
+        (g .hidden-below)
         ∙ rows-cong parties (λ i l. ap₂ (λ (x y : List ℕ). at i hidden x (commitment (schemeOf S) salt e i y)) is (seed-is i l))
 
     pub rows-shown : {out : List ℕ} → out ≡ rows (frameRow S publicKey salt e hidden first second frame (λ i. row 16 i seeds)) parties

@@ -64,7 +64,8 @@ module _ (S : Shape) (frame : List ℕ) {len : ℕ} (long : length frame ≡ tot
       let text : take (32 - 16) (drop 16 publicKey) ≡ drop (S .front) publicKey =
       take-all 16 (drop 16 publicKey) (omega (arith, h, length-drop 16 publicKey)) ∙ ap (λ n. drop n publicKey) (sym (v .plaintext)) in
       ap₂ (λ (k : ℕ) (x : List ℕ). take k x) n (wrote-all w)
-      ∙ take-at (take (32 - 16) (drop 16 publicKey) ++ take (length frame - from) (drop from frame)) (drop (0 + 16 + (len - 16)) d) (0 + 16 + (len - 16)) (w .size)
+      ∙ take-at (take (32 - 16) (drop 16 publicKey) ++ take (length frame - from) (drop from frame)) (drop (0 + 16 + (len - 16)) d)
+      (0 + 16 + (len - 16)) (w .size)
       ∙ ap₂ _++_ text sums-last
 
 -- ---- what the rows are worked out from
@@ -92,7 +93,8 @@ module _ {S : Shape} {publicKey salt : List ℕ} {hidden : ℕ} {first : List �
         ∙ rows-cong (S .parties) (completed-cong (S .parties) hidden (wholeRow S publicKey frame)
         (λ i l. ap (row (total (rowSizes S)) i) right
         ∙ row-of-rows (total (rowSizes S)) shown (S .parties)
-        (λ i l. shown-long S publicKey salt e hidden first second frame seed (g .valid) (g .public-sized) (g .frame-sized) (g .first-sized .bytes) (g .second-wide) i)
+        (λ i l. shown-long S publicKey salt e hidden first second frame seed (g .valid) (g .public-sized) (g .frame-sized) (g .first-sized .bytes)
+        (g .second-wide) i)
         i l))
       where
         seed : ℕ → List ℕ

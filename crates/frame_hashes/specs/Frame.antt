@@ -203,7 +203,8 @@ module _ (S : Shape) (publicKey salt : List ℕ) (e hidden : ℕ) (first : List 
         ∙ ap₂ _++_ (hidden-field 0)
         (ap₂ _++_
         (hidden-field 1
-        ∙ number-left parties hidden wide (S .low) shareC (shown-sized 5) (λ i l. wide-C (schemeOf S) (laws v) committedShown challengeShown wides i (tape-sized i)))
+        ∙ number-left parties hidden wide (S .low) shareC (shown-sized 5)
+        (λ i l. wide-C (schemeOf S) (laws v) committedShown challengeShown wides i (tape-sized i)))
         (ap₂ _++_
         (hidden-field 2
         ∙ numbers-left parties hidden wide (S .low) m1 shareA (shown-sized 6)
@@ -241,7 +242,8 @@ module _ (S : Shape) (publicKey salt : List ℕ) (e hidden : ℕ) (first : List 
     output-long : (i : ℕ) → length (rowO i) ≡ 16
     unfolding completedOutput
     output-long i =
-        at-cases (λ x. length x ≡ 16) i hidden leftO (shareO i) (λ q. length-left parties hidden (ciphertextOf (schemeOf S) publicKey) shareO (sized-ciphertext .size) (λ i l. sized-O i .size))
+        at-cases (λ x. length x ≡ 16) i hidden leftO (shareO i)
+        (λ q. length-left parties hidden (ciphertextOf (schemeOf S) publicKey) shareO (sized-ciphertext .size) (λ i l. sized-O i .size))
         (λ q. sized-O i .size)
 
     abbrev rest : ℕ
@@ -280,4 +282,5 @@ module _ (S : Shape) (publicKey salt : List ℕ) (e hidden : ℕ) (first : List 
         ≡ openedBytes (schemeOf S) (frameC (schemeOf S) frame) (frameA (schemeOf S) frame) (frameB (schemeOf S) frame)
     sums-are =
         let c = shown-sized 5 in
-        sym (ap₂ _++_ (ap₂ _++_ (bytesOf-number (shown 5) wide (c .bytes) (c .size)) (numbers-back wide m1 (shown-sized 6))) (numbers-back wide m1 (shown-sized 7)))
+        sym (ap₂ _++_ (ap₂ _++_ (bytesOf-number (shown 5) wide (c .bytes) (c .size)) (numbers-back wide m1 (shown-sized 6)))
+        (numbers-back wide m1 (shown-sized 7)))

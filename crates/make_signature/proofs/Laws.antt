@@ -41,7 +41,8 @@ pub file-made : (d y salt h1 h3 : List ℕ) {n : ℕ} {a b c : List ℕ} → len
     → c ≡ layout (salt ∷ h1 ∷ h3 ∷ []) ++ y
 unfolding layout
 file-made d y salt h1 h3 {n} {a} {b} {c} h k p q r e f g =
-    let kept : length (putMid 96 (length d - 96) d y) ≡ length d = same-len-mid 96 (length d - 96) d y (omega (arith, length-take (length d - 96) (drop 96 d), length-drop 96 d)) in
+    let kept : length (putMid 96 (length d - 96) d y) ≡ length d = same-len-mid 96 (length d - 96) d y
+    (omega (arith, length-take (length d - 96) (drop 96 d), length-drop 96 d)) in
     let one = wrote-more salt (wrote-none (putMid 96 (length d - 96) d y)) p e (ap length e ∙ length-put _ 0 salt (omega arith)) in
     let two = wrote-more h1 one q f (ap length f ∙ length-put a 32 h1 (omega (arith, one .long))) in
     let three = wrote-more h3 two r g (ap length g ∙ length-put b 64 h3 (omega (arith, two .long))) in

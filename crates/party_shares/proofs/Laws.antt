@@ -133,9 +133,6 @@ module _ {S : Shape} (v : Valid S) where
   pub few-bytes : wide ≤ 8
   few-bytes = omega (arith, v .wide-most)
 
-  pub c-word : Fits w64 (16 + wide)
-  c-word = omega (arith, v .wide-most)
-
   module _ (front key inverse product first far : List ℕ) (given : ℕ) (tables : List ℕ) (last i : ℕ) (t : List ℕ) where
     abbrev x′ : Committed
     x′ = committed front key inverse
@@ -152,15 +149,13 @@ module _ {S : Shape} (v : Valid S) where
 
 -- ---- a row: 16 elements y, then w, then all the rest, each written in its place
 
-pub put-row : (w : ℕ) (d y b z : List ℕ) {k : ℕ} {s : List ℕ} → length d ≡ 16 + w + k → length y ≡ 16 → length b ≡ w
-    → s ≡ put (putMid 0 16 d y) 16 b → length s ≡ length d → length z ≡ k
-    → putMid (16 + w) (length s - (16 + w)) s z ≡ y ++ (b ++ z)
-put-row w d y b z {k} {s} l h m p same n =
+pub put-row : (w : ℕ) (d y b z : List ℕ) {a k : ℕ} {s : List ℕ} → length d ≡ 16 + w + k → length y ≡ 16 → length b ≡ w
+    → s ≡ put (putMid 0 16 d y) 16 b → length s ≡ length d → length z ≡ k → a ≡ 16 + w → putMid a (length s - a) s z ≡ y ++ (b ++ z)
+put-row w d y b z {a} {k} {s} l h m p same n e =
     let first : putMid 0 16 d y ≡ put d 0 y = put-mid 0 16 d y y refl (sym h) in
     let one = wrote-more y (wrote-none d) h first (ap length first ∙ length-put d 0 y (omega arith)) in
     let two = wrote-more b one m p (same ∙ sym (one .long)) in
-    let third : putMid (16 + w) (length s - (16 + w)) s z ≡ put s (16 + w) z =
-    put-mid (16 + w) (length s - (16 + w)) s z z refl (omega arith) in
+    let third : putMid a (length s - a) s z ≡ put s (16 + w) z = rw e (put-mid (16 + w) (length s - (16 + w)) s z z refl (omega arith)) in
     let three = wrote-more z two n third (ap length third ∙ length-put s (16 + w) z (omega arith)) in
     let none : length d ≤ 16 + w + k = omega arith in
     wrote-all three ∙ ap (((y ++ b) ++ z) ++_) (drop-of-length-le d none) ∙ append-nil ((y ++ b) ++ z) ∙ append-assoc y b z

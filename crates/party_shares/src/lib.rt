@@ -1,7 +1,7 @@
 // A party's shares: from its tape those of the output, of c, a and b.
 use banquet::Shape;
 ghost use mathlib.Core.Path.{_≡_};
-ghost use Prim.Native.Nat.{_+_, _*_};
+ghost use Prim.Native.Nat.{_*_};
 ghost use mathlib.Core.List.{_++_};
 ghost use lib.ListN.{length};
 ghost use Rattle.slices.specs.Layout.{total};
@@ -101,7 +101,7 @@ pub fn party_row(
     slices::copy(&mut out[0..16], &output);
     let c = opened_c(shape, i, product, tape, far, given);
     numbers::store(out, 16, shape.wide, c);
-    let at = 16 + shape.wide;
+    let at = fields::offset(&sets::row_sizes(shape), 2);
     let end = out.len();
     opened_row(
         shape,

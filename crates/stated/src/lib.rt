@@ -2,7 +2,7 @@
 use banquet::Shape;
 ghost use mathlib.Core.Path.{_≡_};
 ghost use Prim.Native.Nat.{_+_, _*_, _^_, _<_, _≤_};
-ghost use lib.ListN.{length, getD};
+ghost use lib.ListN.{length, getD, take};
 ghost use Rattle.slices.specs.Lists.{rows as rowsOf, row, put};
 ghost use Rattle.slices.specs.Layout.{total, field};
 ghost use Rattle.banquet.specs.Shape.{transcriptSizes};
@@ -10,12 +10,24 @@ ghost use Rattle.sets.specs.Valid.{Valid};
 ghost use Rattle.sets.specs.Bounds.{rowSizes};
 ghost use Rattle.forms.specs.Stated.{statedRow};
 
-// Row i of field k, whose rows have len bytes, is written at an index of out.
-fn copy_row(sizes: &[usize], k: usize, i: usize, len: usize, s: &[u8], out: &mut [u8], at: usize)
-    requires { ⌜ (k < length (now sizes)) × (total (now sizes) ≤ length (now s)) × (total (now sizes) < 2 ^ 63)
-        × (i * len + len ≤ getD (now sizes) k 0) × (at + len ≤ length (now out)) ⌝ }
-    ensures { λ _. ⌜ now (out .exit) ≡ put (now (out .entry)) at (row len i (field (now (sizes .entry)) k (now (s .entry)))) ⌝ }
+// Row i of field k, as part p of a row of shares; sizes are those of the fields, parts those of the row's parts.
+fn copy_share(
+    sizes: &[usize],
+    k: usize,
+    parts: &[usize],
+    p: usize,
+    i: usize,
+    s: &[u8],
+    out: &mut [u8],
+)
+    requires { ⌜ (k < length (now sizes)) × (total (now sizes) ≤ length (now s)) × (total (now sizes) < 2 ^ 63) × (p < length (now parts))
+        × (total (now parts) ≤ length (now out)) × (total (now parts) < 2 ^ 63)
+        × (i * getD (now parts) p 0 + getD (now parts) p 0 ≤ getD (now sizes) k 0) ⌝ }
+    ensures { λ _. ⌜ now (out .exit) ≡ put (now (out .entry)) (total (take p (now (parts .entry))))
+        (row (getD (now (parts .entry)) p 0) i (field (now (sizes .entry)) k (now (s .entry)))) ⌝ }
 {
+    let len = parts[p];
+    let at = fields::offset(parts, p);
     let rows = fields::field(sizes, k, s);
     let a = i * len;
     let b = a + len;
@@ -29,13 +41,11 @@ fn stated_row(shape: Shape, transcript: &[u8], i: usize, out: &mut [u8])
     ensures { λ _. ⌜ now (out .exit) ≡ statedRow shape (now (transcript .entry)) i ⌝ }
 {
     let sizes: &[usize] = &opening_sizes::transcript_sizes(shape);
-    let row = shape.m1 * shape.wide;
-    let a = 16 + shape.wide;
-    let b = a + row;
-    copy_row(sizes, 3, i, 16, transcript, out, 0);
-    copy_row(sizes, 9, i, shape.wide, transcript, out, 16);
-    copy_row(sizes, 10, i, row, transcript, out, a);
-    copy_row(sizes, 11, i, row, transcript, out, b);
+    let parts: &[usize] = &sets::row_sizes(shape);
+    copy_share(sizes, 3, parts, 0, i, transcript, out);
+    copy_share(sizes, 9, parts, 1, i, transcript, out);
+    copy_share(sizes, 10, parts, 2, i, transcript, out);
+    copy_share(sizes, 11, parts, 3, i, transcript, out);
 }
 
 // The stated shares of all parties.

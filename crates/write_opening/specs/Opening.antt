@@ -3,7 +3,7 @@ use mathlib.Core.Path.{_≡_, ap, ap₂, subst, _∙_}
 use mathlib.Core.List.{List, [], _∷_, _++_, append-assoc, append-nil}
 use Prim.Native.Nat.{ℕ, _<_}
 use native.Mathlib.Omega.{arith}
-use lib.ListN.{length}
+use lib.ListN.{length, getD}
 use Rattle.slices.specs.Lists.{rows, row}
 use Rattle.slices.specs.Tab.{rows-cong}
 use Rattle.slices.specs.Numbers.{bytesOf}
@@ -20,9 +20,9 @@ use Rattle.banquet.specs.Opening.{transcript, opening}
 use Rattle.tree.specs.Rows.{row-leaf}
 use Rattle.sets.specs.Valid.{Valid}
 use Rattle.forms.specs.Party.{shareRow, committed}
-use Rattle.write_opening.specs.Written.{outputs, opened, written}
+use Rattle.write_opening.specs.Written.{shareColumn, writtenTranscript, written}
 use Rattle.write_opening.specs.Tapes.{key-cong, inverses-cong, offsets-cong}
-use Rattle.write_opening.specs.Columns.{shares, shareC, shareA, shareB, outputs-are, opened-are}
+use Rattle.write_opening.specs.Columns.{shares, kinds, column-is}
 
 -- the seeds as the tree gives them
 pub leaf-seeds : {S : Shape} → Valid S → (salt root : List ℕ) (e : ℕ) {seeds : List ℕ} → length root ≡ 16
@@ -30,11 +30,12 @@ pub leaf-seeds : {S : Shape} → Valid S → (salt root : List ℕ) (e : ℕ) {s
 leaf-seeds {S} v salt root e h w i l = ap (row 16 i) w ∙ row-leaf salt e (S .depth) 0 root h i (omega (arith, v .leaves))
 
 -- the parts, one after the other
-assembled : (salt first bytes wc wa wb tail : List ℕ) (e : ℕ) {c c′ u u′ k k′ y y′ o o′ w : List ℕ} → c ≡ c′ → u ≡ u′ → k ≡ k′ → y ≡ y′ → o ≡ o′
-    → w ≡ wc ++ (wa ++ wb) → (salt ++ e ∷ c) ++ (u ++ ((k ++ (y ++ (first ++ (o ++ bytes)))) ++ (w ++ tail)))
-    ≡ layout (salt ∷ (e ∷ []) ∷ c′ ∷ u′ ∷ k′ ∷ y′ ∷ first ∷ o′ ∷ bytes ∷ wc ∷ wa ∷ wb ∷ []) ++ tail
+assembled : (salt first bytes : List ℕ) (e : ℕ) {c c′ u u′ k k′ y y′ o o′ wc wc′ wa wa′ wb wb′ : List ℕ}
+    → c ≡ c′ → u ≡ u′ → k ≡ k′ → y ≡ y′ → o ≡ o′ → wc ≡ wc′ → wa ≡ wa′ → wb ≡ wb′
+    → (salt ++ e ∷ c) ++ (u ++ ((k ++ (y ++ (first ++ (o ++ bytes)))) ++ (wc ++ (wa ++ wb))))
+    ≡ layout (salt ∷ (e ∷ []) ∷ c′ ∷ u′ ∷ k′ ∷ y′ ∷ first ∷ o′ ∷ bytes ∷ wc′ ∷ wa′ ∷ wb′ ∷ [])
 unfolding layout
-assembled salt first bytes wc wa wb tail e p q r s t v = rw (p, q, r, s, t, v) (simp (append-assoc, append-nil))
+assembled salt first bytes e p q r s t v v′ v″ = rw (p, q, r, s, t, v, v′, v″) (simp (append-assoc, append-nil))
 
 module _ (S : Shape) (key publicKey salt root firstBytes : List ℕ) (e R : ℕ) (seeds : List ℕ) where
   open Shape S using (parties, depth, wide)
@@ -95,12 +96,15 @@ module _ (S : Shape) (key publicKey salt root firstBytes : List ℕ) (e R : ℕ)
         ≡ rows (λ i. commitment (schemeOf S) salt e i (seedOf (schemeOf S) salt root e i)) parties
     commitments-are = rows-cong parties (λ i l. ap (commitment (schemeOf S) salt e i) (m .seeds-are i l))
 
+    -- the shares of kind n, in a column
+    shares-are : (n : ℕ) → shareColumn S n s ≡ rows (λ i. getD (kinds S x d t i) n []) parties
+    shares-are n = ap (shareColumn S n) s-is ∙ column-is S x d t n
+
     is-opening : written S salt e root hidden seeds k y firstBytes o R s ≡ opening (schemeOf S) key publicKey salt root firstBytes e R hidden
-    unfolding written opening transcript
+    unfolding writtenTranscript opening transcript
     is-opening =
-        assembled salt firstBytes (bytesOf wide R) (rows (shareC S x d t) parties) (rows (shareA S x d t) parties) (rows (shareB S x d t) parties)
-        (hidden ∷ siblingSeeds shake128 salt e depth 0 root hidden) e commitments-are
-        (ap (outputs S) s-is ∙ outputs-are S x d t) k-is y-is o-is (ap (opened S) s-is ∙ opened-are S x d t)
+        ap (_++ (hidden ∷ siblingSeeds shake128 salt e depth 0 root hidden))
+        (assembled salt firstBytes (bytesOf wide R) e commitments-are (shares-are 0) k-is y-is o-is (shares-are 1) (shares-are 2) (shares-are 3))
 
   pub written-opening : {front k y o s : List ℕ} → front ≡ frontOf (schemeOf S) publicKey → Made front k y o s → (hidden : ℕ)
       → written S salt e root hidden seeds k y firstBytes o R s ≡ opening (schemeOf S) key publicKey salt root firstBytes e R hidden

@@ -72,7 +72,8 @@ module _ (x : tie.After-expand-shown) where
   leaves = x .expand-shown .last .1 .1 .1 .1 .1 .1 .0
 
   leaves-are : leaves
-      ≡ nodeSeeds (shownLeaves shake128 (saltOf (schemeOf (s .args .shape)) (s .args .transcript .now)) (s .args .e) (s .args .shape .depth) 0 (s .args .siblings .now) (s .args .hidden))
+      ≡ nodeSeeds (shownLeaves shake128 (saltOf (schemeOf (s .args .shape)) (s .args .transcript .now)) (s .args .e) (s .args .shape .depth) 0
+      (s .args .siblings .now) (s .args .hidden))
   leaves-are =
       x .expand-shown .ensures
       ∙ ap (λ l. nodeSeeds (shownLeaves shake128 l (s .args .e) (s .args .shape .depth) 0 (s .args .siblings .now) (s .args .hidden)))
@@ -181,9 +182,13 @@ returns-2 c =
 pub check-parties-spec : {M : Type 1} → statement M
 check-parties-spec =
     tie.close
-    (tie.spec (λ c κs. (c .before .before .before .before) .pre .0 .valid) (λ c. sym (ap length (c .before .transcript-sizes .ensures))) (λ c κs. start (c .before) .pre .0 .valid) field-requires
+    (tie.spec (λ c κs. (c .before .before .before .before) .pre .0 .valid) (λ c. sym (ap length (c .before .transcript-sizes .ensures)))
+    (λ c κs. start (c .before) .pre .0 .valid) field-requires
     (λ c. zero-le) (λ c. zero-le) (λ c. most-bytes (c .before)) expand-shown-requires (λ c. sym (seeds-long (c .before .before)))
-    (λ c. omega (arith, s (c .before .before .before) .pre .0 .valid .few)) (λ c. zero-le) (λ c. zero-le) (λ c. front-room (c .before .before .before)) first-commitment-requires
-    (λ c. omega (arith, s (shown (c .before .before .before .before)) .pre .0 .valid .few, c .if1 .taken)) (λ c. scratch1 (c .before .before .before .before) .long) returns
-    (λ c κs. s (shown (c .before .before .before .before)) .pre .0 .valid) (λ c. omega (arith, most (c .before))) (λ c. omega (arith, most (c .before))) (λ c. zero-le) (λ c. zero-le) (λ c. fits (c .before))
+    (λ c. omega (arith, s (c .before .before .before) .pre .0 .valid .few)) (λ c. zero-le) (λ c. zero-le)
+    (λ c. front-room (c .before .before .before)) first-commitment-requires
+    (λ c. omega (arith, s (shown (c .before .before .before .before)) .pre .0 .valid .few, c .if1 .taken))
+    (λ c. scratch1 (c .before .before .before .before) .long) returns
+    (λ c κs. s (shown (c .before .before .before .before)) .pre .0 .valid) (λ c. omega (arith, most (c .before)))
+    (λ c. omega (arith, most (c .before))) (λ c. zero-le) (λ c. zero-le) (λ c. fits (c .before))
     check-rows-requires (λ c. scratch2 (c .before .before) .long) returns-2)

@@ -48,7 +48,8 @@ loop-holds c =
     let a = s .args in
     (zero-le, s .pre .2, s .pre .3, absorbed-none (a .shape) (a .public .now) (a .s .now) (a .start .first) (a .start .third))
 
-most : (i : tie.In-loop Inv-loop μ-loop) → i .before .loop .e * (start (i .before) .args .shape .m1 * start (i .before) .args .shape .wide) + start (i .before) .args .shape .m1 * start (i .before) .args .shape .wide ≤ 2460
+most : (i : tie.In-loop Inv-loop μ-loop) → i .before .loop .e * (start (i .before) .args .shape .m1 * start (i .before) .args .shape .wide)
+    + start (i .before) .args .shape .m1 * start (i .before) .args .shape .wide ≤ 2460
 most i = first-most (start (i .before) .pre .0) (start (i .before) .pre .1) (i .loop-test .taken)
 
 hidden-requires : tie.Need-hidden-requires Inv-loop μ-loop
@@ -67,7 +68,8 @@ absorb-frame-requires c κs =
     let a = start k .args in
     let p = start k .pre in (
       given (p .0) (p .1) (i .loop-test .taken) (salt-is (a .shape) (a .s .now)) ((c .before .before .before .before .before) .hidden .ensures)
-          (row-cut (k .loop .e) (a .shape .m1 * a .shape .wide) (a .firsts .now)) ((c .before .before .before) .second .ensures) ((c .before .before) .frame .ensures),
+          (row-cut (k .loop .e) (a .shape .m1 * a .shape .wide) (a .firsts .now)) ((c .before .before .before) .second .ensures)
+          ((c .before .before) .frame .ensures),
       k .loop .inv .1,
       k .loop .inv .2,
     )
@@ -103,6 +105,7 @@ pub absorb-executions-spec : {M : Type 1} → statement M
 absorb-executions-spec =
     tie.close
     (tie.spec Inv-loop μ-loop mul-n loop-holds (λ c. in-word (begins _ (most c)) (lit≤ tt)) (λ c. in-word (most c) (lit≤ tt)) (λ c. lit≤ tt) (λ c. lit≤ tt)
-    (λ c. salt-room (start (c .before))) (λ c. search needs) hidden-requires (λ c. le-add-right _ _) (λ c. le-add-right _ _) part-absorb-frame-end-2 second-requires
+    (λ c. salt-room (start (c .before))) (λ c. search needs) hidden-requires (λ c. le-add-right _ _) (λ c. le-add-right _ _) part-absorb-frame-end-2
+    second-requires
     (λ c κs. start (c .before .before .before .before .before) .pre .0 .valid) absorb-frame-requires add-e (λ c. search needs) loop-again
     (λ c. c .before .loop .inv .1 ∙ sym (start (c .before) .pre .2)) (λ c. c .before .loop .inv .2 ∙ sym (start (c .before) .pre .3)) returns)

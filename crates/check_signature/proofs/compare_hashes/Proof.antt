@@ -9,29 +9,39 @@ use Rattle.check_signature.proofs.Hashes.{refused, passed}
 use Rattle.check_signature.proofs.compare_hashes.Statement.{statement}
 use Rattle.check_signature.proofs.compare_hashes.Tie as tie
 
+-- ---- earlier moments
+
+abbrev start-before-equal : tie.After-equal → tie.Start
+start-before-equal c = c .before .before .before .before .before .before .before
+
 returns : tie.Need-returns
 returns c =
     let q = c .before in
-    let a = (q .before .before .before .before .before .before .before) .args in
-    refused (squeezed (finished (a .t .first)) 32) (take (64 - 32) (drop 32 (a .s .now))) FirstHashDiffers _ ((q .before .before .before .before) .output .ensures) (q .equal .ensures) (c .if1 .taken)
+    let a = start-before-equal q .args in
+    refused (squeezed (finished (a .t .first)) 32) (take (64 - 32) (drop 32 (a .s .now))) FirstHashDiffers _
+    ((q .before .before .before .before) .output .ensures) (q .equal .ensures) (c .if1 .taken)
 
 returns-2 : tie.Need-returns-2
 returns-2 c =
     let r = c .before in
     let l = (r .before .before .before .before .before .before) in
     let q = l .before in
-    let a = (q .before .before .before .before .before .before .before) .args in
-    refused (squeezed (finished (a .t .third)) 32) (take (96 - 64) (drop 64 (a .s .now))) ThirdHashDiffers Accepted ((r .before .before .before .before) .output2 .ensures) (r .equal2 .ensures) (c .if2 .taken)
-    ∙ passed (squeezed (finished (a .t .first)) 32) (take (64 - 32) (drop 32 (a .s .now))) FirstHashDiffers _ ((q .before .before .before .before) .output .ensures) (q .equal .ensures) (l .if1 .left)
+    let a = start-before-equal q .args in
+    refused (squeezed (finished (a .t .third)) 32) (take (96 - 64) (drop 64 (a .s .now))) ThirdHashDiffers Accepted
+    ((r .before .before .before .before) .output2 .ensures) (r .equal2 .ensures) (c .if2 .taken)
+    ∙ passed (squeezed (finished (a .t .first)) 32) (take (64 - 32) (drop 32 (a .s .now))) FirstHashDiffers _
+    ((q .before .before .before .before) .output .ensures) (q .equal .ensures) (l .if1 .left)
 
 returns-3 : tie.Need-returns-3
 returns-3 c =
     let r = c .before in
     let l = (r .before .before .before .before .before .before) in
     let q = l .before in
-    let a = (q .before .before .before .before .before .before .before) .args in
-    passed (squeezed (finished (a .t .third)) 32) (take (96 - 64) (drop 64 (a .s .now))) ThirdHashDiffers Accepted ((r .before .before .before .before) .output2 .ensures) (r .equal2 .ensures) (c .if2 .left)
-    ∙ passed (squeezed (finished (a .t .first)) 32) (take (64 - 32) (drop 32 (a .s .now))) FirstHashDiffers _ ((q .before .before .before .before) .output .ensures) (q .equal .ensures) (l .if1 .left)
+    let a = start-before-equal q .args in
+    passed (squeezed (finished (a .t .third)) 32) (take (96 - 64) (drop 64 (a .s .now))) ThirdHashDiffers Accepted
+    ((r .before .before .before .before) .output2 .ensures) (r .equal2 .ensures) (c .if2 .left)
+    ∙ passed (squeezed (finished (a .t .first)) 32) (take (64 - 32) (drop 32 (a .s .now))) FirstHashDiffers _
+    ((q .before .before .before .before) .output .ensures) (q .equal .ensures) (l .if1 .left)
 
 pub compare-hashes-spec : {M : Type 1} → statement M
 compare-hashes-spec =

@@ -27,7 +27,7 @@ abbrev draw2-before-seconds3 : tie.After-seconds3 → tie.After-draw2
 draw2-before-seconds3 c = c .before .before .before .before .before .before .before
 
 abbrev draw-arg-before-absorb-executions-arg2 : tie.After-absorb-executions-arg2 → tie.After-draw-arg
-draw-arg-before-absorb-executions-arg2 c = c .before .before .before .before .before .before .before .before .before .before .before .before .before .before .before
+draw-arg-before-absorb-executions-arg2 c = draw-arg-before-draw-arg2 (c .before .before .before .before .before .before .before .before)
 
 abbrev start-before-struct-known2 : tie.After-struct-known2 → tie.Start
 start-before-struct-known2 c = c .before .before .before .before .before .before .before
@@ -67,13 +67,16 @@ draw-requires-2 : tie.Need-draw-requires-2
 draw-requires-2 c κs = let s = start (c .before .before .before .before) in ap length (s .pre .1) ∙ sized-second (s .args .shape) _ _ .size
 
 firsts-kept : tie.Need-slice-aggregate-absorb-executions
-firsts-kept c = let s = start (draw-arg-before-draw-arg2 (c .before .before .before .before)) in array-kept (f s) (few-firsts s) ((draw-before-firsts3 c) .draw .last .1 .1 .0) ((draw-before-firsts3 c) .draw .kept .1 .1 .0)
+firsts-kept c = let s = start (draw-arg-before-draw-arg2 (c .before .before .before .before)) in
+    array-kept (f s) (few-firsts s) ((draw-before-firsts3 c) .draw .last .1 .1 .0) ((draw-before-firsts3 c) .draw .kept .1 .1 .0)
 
 seconds-kept : tie.Need-slice-aggregate-absorb-executions-2
-seconds-kept c = let s = start (draw-arg-before-draw-arg2 (c .before .before .before .before .before)) in array-kept (w s) (few-seconds s) ((draw2-before-seconds3 c) .draw2 .last .1 .1 .0) ((draw2-before-seconds3 c) .draw2 .kept .1 .1 .0)
+seconds-kept c = let s = start (draw-arg-before-draw-arg2 (c .before .before .before .before .before)) in
+    array-kept (w s) (few-seconds s) ((draw2-before-seconds3 c) .draw2 .last .1 .1 .0) ((draw2-before-seconds3 c) .draw2 .kept .1 .1 .0)
 
 thirds-kept : tie.Need-slice-aggregate-absorb-executions-3
-thirds-kept c = let s = start (draw-arg-before-draw-arg2 (c .before .before .before .before .before .before)) in array-kept (p s) (few-thirds s) ((c .before .before .before .before) .draw3 .last .1 .1 .0) ((c .before .before .before .before) .draw3 .kept .1 .1 .0)
+thirds-kept c = let s = start (draw-arg-before-draw-arg2 (c .before .before .before .before .before .before)) in
+    array-kept (p s) (few-thirds s) ((c .before .before .before .before) .draw3 .last .1 .1 .0) ((c .before .before .before .before) .draw3 .kept .1 .1 .0)
 
 absorb-executions-requires : tie.Need-absorb-executions-requires
 absorb-executions-requires c κs =
@@ -81,9 +84,11 @@ absorb-executions-requires c κs =
     let a = s .args in (
       s .pre .0,
       record {
-        firsts-are = drawn-front (f s) (few-firsts s) (ap (6 ∷_) (h1-is (a .shape) (a .s .now))) ((draw-before-firsts3 (c .before .before .before .before)) .draw .ensures);
+        firsts-are = drawn-front (f s) (few-firsts s) (ap (6 ∷_) (h1-is (a .shape) (a .s .now)))
+            ((draw-before-firsts3 (c .before .before .before .before)) .draw .ensures);
         seconds-are = drawn-front (w s) (few-seconds s) (ap (7 ∷_) (s .pre .1)) ((draw2-before-seconds3 (c .before .before .before)) .draw2 .ensures);
-        thirds-are = drawn-front (p s) (few-thirds s) (ap (8 ∷_) (h3-is (a .shape) (a .s .now))) ((c .before .before .before .before .before .before) .draw3 .ensures);
+        thirds-are = drawn-front (p s) (few-thirds s) (ap (8 ∷_) (h3-is (a .shape) (a .s .now)))
+            ((c .before .before .before .before .before .before) .draw3 .ensures);
       },
       s .pre .2,
       s .pre .3,
@@ -92,9 +97,16 @@ absorb-executions-requires c κs =
 pub recomputed-spec : {M : Type 1} → statement M
 recomputed-spec =
     tie.close
-    (tie.spec (λ c. in-word (columns (c .before .before .before .before .before .before)) (lit≤ tt)) (λ c. in-word (few-firsts (c .before .before .before .before .before .before)) (lit≤ tt)) (λ c. in-word (few-seconds (start-before-struct-known2 c)) (lit≤ tt)) (λ c. in-word (few-thirds (start-before-struct-known2 c)) (lit≤ tt))
+    (tie.spec (λ c. in-word (columns (c .before .before .before .before .before .before)) (lit≤ tt))
+    (λ c. in-word (few-firsts (c .before .before .before .before .before .before)) (lit≤ tt))
+    (λ c. in-word (few-seconds (start-before-struct-known2 c)) (lit≤ tt)) (λ c. in-word (few-thirds (start-before-struct-known2 c)) (lit≤ tt))
     (λ c. lit≤ tt) (λ c. lit≤ tt) (λ c. h1-room (start-before-struct-known2 c)) (λ c. zero-le) (λ c. zero-le) (λ c. few-firsts (start c))
-    (λ c κs. cut-long 32 64 (start (c .before) .args .s .now) refl (h1-room (start (c .before)))) (λ c. zero-le) (λ c. zero-le) (λ c. few-seconds (start (c .before .before .before))) draw-requires-2 (λ c. lit≤ tt)
-    (λ c. lit≤ tt) (λ c. h3-room (start (c .before .before .before .before .before .before))) (λ c. zero-le) (λ c. zero-le) (λ c. few-thirds (start (draw-arg-before-draw-arg2 c))) (λ c κs. cut-long 64 96 (start (draw-arg-before-draw-arg2 (c .before)) .args .s .now) refl (h3-room (start (draw-arg-before-draw-arg2 (c .before))))) firsts-kept
+    (λ c κs. cut-long 32 64 (start (c .before) .args .s .now) refl (h1-room (start (c .before)))) (λ c. zero-le) (λ c. zero-le)
+    (λ c. few-seconds (start (c .before .before .before))) draw-requires-2 (λ c. lit≤ tt)
+    (λ c. lit≤ tt) (λ c. h3-room (start (c .before .before .before .before .before .before))) (λ c. zero-le) (λ c. zero-le)
+    (λ c. few-thirds (start (draw-arg-before-draw-arg2 c)))
+    (λ c κs. cut-long 64 96 (start (draw-arg-before-draw-arg2 (c .before)) .args .s .now) refl
+    (h3-room (start (draw-arg-before-draw-arg2 (c .before))))) firsts-kept
     seconds-kept thirds-kept absorb-executions-requires (λ c. (c .before .before .before .before) .absorb-executions .kept .1 .1 .1 .1 .1 .1 .1 .0)
-    (λ c. (c .before .before .before .before) .absorb-executions .kept .1 .1 .1 .1 .1 .1 .1 .1 .0) (λ c. (c .before .before .before .before) .absorb-executions .ensures))
+    (λ c. (c .before .before .before .before) .absorb-executions .kept .1 .1 .1 .1 .1 .1 .1 .1 .0)
+    (λ c. (c .before .before .before .before) .absorb-executions .ensures))

@@ -73,6 +73,11 @@ Inv-loop key plaintext inputs₀ k₀ x₀ n₀ inputs k x n =
 abbrev μ-loop : tie.MeasureT-loop
 μ-loop key plaintext inputs₀ k₀ x₀ n₀ inputs k x n = 10 - n
 
+-- ---- earlier moments
+
+abbrev start-before-loop : tie.At-loop Inv-loop μ-loop → tie.Start Inv-loop μ-loop
+start-before-loop c = c .before .before .before .before .before .before .before
+
 loop-holds : tie.Need-loop-holds Inv-loop μ-loop
 unfolding roundKey
 loop-holds c =
@@ -90,7 +95,7 @@ loop-again c =
     let first = second .before .before .before .before .before in
     let word = first .before .before in
     let at = word .before .before .before in
-    let args = at .before .before .before .before .before .before .before .args in
+    let args = start-before-loop at .args in
     let turn = at .loop .inv in
     let less : at .loop .n < 10 = omega arith in
     let k = next-key (args .key .now) (args .plaintext .now) (at .loop .n) (turn .key) (next .next-round-key .ensures) in

@@ -31,8 +31,16 @@ aes-circuit-requires : tie.Need-aes-circuit-requires
 aes-circuit-requires c κs =
     let o = c .before .before .before in
     let s = start-before-one o in
-    let v = s .pre .0 in
-    (one-small (s .args .i) (o .one .ensures), (search needs, (s .pre .1 ∙ v .plaintext, (c .before .before .before .before .before .before .own2 .kept .1 .1 .1 .0 ∙ s .pre .5 ∙ sboxes-200 v, s .pre .6 ∙ sboxes-200 v))))
+    let v = s .pre .0 in (
+      one-small (s .args .i) (o .one .ensures),
+      (
+        search needs,
+        (
+          s .pre .1 ∙ v .plaintext,
+          (c .before .before .before .before .before .before .own2 .kept .1 .1 .1 .0 ∙ s .pre .5 ∙ sboxes-200 v, s .pre .6 ∙ sboxes-200 v),
+        ),
+      ),
+    )
 
 returns : tie.Need-returns
 returns c =

@@ -29,7 +29,7 @@ abbrev xor-into-before-slice-known6 : tie.After-slice-known6 → tie.After-xor-i
 xor-into-before-slice-known6 c = c .before .before .before .before .before .before .before
 
 abbrev draw-parties-before-slice-known6 : tie.After-slice-known6 → tie.After-draw-parties
-draw-parties-before-slice-known6 c = c .before .before .before .before .before .before .before .before .before .before .before .before .before .before .before .before .before .before .before
+draw-parties-before-slice-known6 c = sum-rows-before-absorb-shares-arg (c .before .before .before) .before .before .before .before .before .before .before
 
 -- ---- the tapes
 
@@ -73,8 +73,11 @@ module _ (m : tie.After-offset) where
 sum-rows-requires : tie.Need-sum-rows-requires
 sum-rows-requires c κs =
     let m = c .before .before in
-    let s = entry m in
-    (s .pre .0 .some, tapes-long (drawn m) ∙ ap (s .args .shape .parties *_) (sym (sum-long (s .pre .0) (s .args .frame .now) (s .pre .5) (m .offset .ensures .0) (sized m .tape-length .ensures .0))))
+    let s = entry m in (
+      s .pre .0 .some,
+      tapes-long (drawn m) ∙ ap (s .args .shape .parties *_)
+          (sym (sum-long (s .pre .0) (s .args .frame .now) (s .pre .5) (m .offset .ensures .0) (sized m .tape-length .ensures .0))),
+    )
 
 -- ---- their sum in the frame
 

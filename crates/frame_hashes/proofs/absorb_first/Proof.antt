@@ -28,8 +28,10 @@ returns c =
     let r = sized x in
     let a = start r .args in
     let column = ap (λ m. columnOf (a .shape .parties) m 0 16 (a .rows .now)) (r .row-length .ensures .0) in
-    let first = more (a .s) (a .commitments .now) _ (x .before .absorb .ensures) (x .absorb-column .ensures ∙ ap (absorbed (x .before .absorb .result)) column) in
-    let second = more (a .s) _ _ first (c .before .before .absorb2 .ensures ∙ ap (absorbed (x .absorb-column .result)) (c .before .before .before .part .ensures)) in
+    let first = more (a .s) (a .commitments .now) _ (x .before .absorb .ensures)
+    (x .absorb-column .ensures ∙ ap (absorbed (x .before .absorb .result)) column) in
+    let second = more (a .s) _ _ first (c .before .before .absorb2 .ensures
+    ∙ ap (absorbed (x .absorb-column .result)) (c .before .before .before .part .ensures)) in
     more (a .s) _ _ second (c .absorb3 .ensures ∙ ap (absorbed (c .before .before .absorb2 .result)) (c .before .part2 .ensures))
 
 pub absorb-first-spec : {M : Type 1} → statement M

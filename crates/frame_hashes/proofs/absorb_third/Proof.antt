@@ -40,4 +40,5 @@ returns c =
 pub absorb-third-spec : {M : Type 1} → statement M
 absorb-third-spec =
     tie.close
-    (tie.spec (λ c κs. (c .before .before) .pre .0) least within (λ c. rest-le _ _) (λ c. rest-le _ _) (λ c. le-refl _) (λ c κs. tt) absorb-column-requires returns)
+    (tie.spec (λ c κs. (c .before .before) .pre .0) least within (λ c. rest-le _ _) (λ c. rest-le _ _) (λ c. le-refl _) (λ c κs. tt)
+    absorb-column-requires returns)

@@ -118,6 +118,7 @@ pub complete-rows-spec : {M : Type 1} → statement M
 complete-rows-spec =
     tie.close
     (tie.spec (λ c κs. (c .before .before .before) .pre .0) least (λ c. refl) (λ c. lit≤ tt) (λ c. lit≤ tt) (λ c. cipher-room (c .before))
-    (λ c κs. omega (arith, cipher-long (c .before .before))) (λ c. sym ((c .before .before) .copy-at .kept .0)) (λ c. within (c .before .before .before .before .before)) (λ c. rest-le _ _) (λ c. rest-le _ _) (λ c. le-refl _) copy-at-requires-2
+    (λ c κs. omega (arith, cipher-long (c .before .before))) (λ c. sym ((c .before .before) .copy-at .kept .0))
+    (λ c. within (c .before .before .before .before .before)) (λ c. rest-le _ _) (λ c. rest-le _ _) (λ c. le-refl _) copy-at-requires-2
     (λ c. zero-le) (λ c. zero-le) (λ c. room (c .before .before)) (λ c. zero-le) (λ c. zero-le) (λ c. omega (arith, most (z (c .before .before .before))))
     complete-requires (λ c. (c .before .before .before) .complete .kept .1 .1 .1 .1 .0) returns)

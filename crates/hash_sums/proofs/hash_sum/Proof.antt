@@ -19,6 +19,11 @@ Inv-loop tag salt e n seeds out₀ len scratch₀ i₀ out scratch i =
 abbrev μ-loop : tie.MeasureT-loop
 μ-loop tag salt e n seeds out₀ len scratch₀ i₀ out scratch i = n - i
 
+-- ---- earlier moments
+
+abbrev loop-before-slice-known3 : tie.After-slice-known3 Inv-loop μ-loop → tie.At-loop Inv-loop μ-loop
+loop-before-slice-known3 c = c .before .before .before .before .before .before .before .before
+
 abbrev start : tie.At-loop Inv-loop μ-loop → tie.Start Inv-loop μ-loop
 start k = k .before .before .before .before .before .before .before .before
 
@@ -28,7 +33,7 @@ loop-holds c = (search needs, search needs, summing-none (c .before .before .zer
 loop-again : tie.Need-loop-again Inv-loop μ-loop
 loop-again c =
     let h = c .before .before .before .add-hash in
-    let k = c .before .before .before .before .before .before .before .before in
+    let k = loop-before-slice-known3 c in
     let a = start k .args in
     let i = k .loop .i in
     let len = length (a .out .now) in

@@ -23,6 +23,12 @@ use Rattle.make_opening.proofs.make.Tie as tie
 
 -- ---- earlier moments
 
+abbrev true-rows-before-row-length : tie.After-row-length → tie.After-true-rows
+true-rows-before-row-length c = c .before .before .before .before .before .before .before
+
+abbrev expand-before-true-rows : tie.After-true-rows → tie.After-expand
+expand-before-true-rows c = c .before .before .before .before .before .before .before .before .before
+
 abbrev leaf-bytes-before-input-rows : tie.After-input-rows → tie.After-leaf-bytes
 leaf-bytes-before-input-rows c = c .before .before .before .before .before .before .before
 
@@ -80,7 +86,7 @@ true-rows-requires c κs =
 make-shares-requires : tie.Need-make-shares-requires
 make-shares-requires c κs =
     let r = rowed (sized c) in
-    let at-true-rows = r .before .before .before .before .before .before .before in
+    let at-true-rows = true-rows-before-row-length r in
     let s = begun r in
     let p = s .pre in
     let t = at-true-rows .true-rows .ensures in
@@ -88,7 +94,7 @@ make-shares-requires c κs =
       p .0,
       p .1,
       at-points v (p .2) (t .0) (t .1 .0) (t .1 .1),
-      at-true-rows .before .before .before .before .before .before .before .before .before .expand .ensures,
+      expand-before-true-rows at-true-rows .expand .ensures,
       front-long _ (sym (by-points v (s .args .shape .wide))) (points-room v),
       front-long _ (ap (λ n. s .args .shape .parties * n) (r .row-length .ensures .0)) (le-trans (rows-fit r) (p .4)),
       front-long _ (sized c .opening-length .ensures .0) (opening-fits (sized c)),

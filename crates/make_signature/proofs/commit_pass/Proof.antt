@@ -18,6 +18,9 @@ use Rattle.make_signature.proofs.commit_pass.Tie as tie
 
 -- ---- earlier moments
 
+abbrev salt-known-before-copy-at2 : tie.After-copy-at2 → tie.After-shared-slice-known5
+salt-known-before-copy-at2 c = c .before .before .before .before .before .before .before .before .before .before .before .before
+
 abbrev copy-at2-before-commit-frames-arg3 : tie.After-commit-frames-arg3 → tie.After-copy-at2
 copy-at2-before-commit-frames-arg3 c = c .before .before .before .before .before .before .before
 
@@ -31,7 +34,7 @@ abbrev tape-length-before-copy-at-arg2 : tie.After-copy-at-arg2 → tie.After-ta
 tape-length-before-copy-at-arg2 c = c .before .before .before .before .before .before .before
 
 abbrev start-before-slice-known4 : tie.After-slice-known4 → tie.Start
-start-before-slice-known4 c = c .before .before .before .before .before .before .before .before .before .before .before .before .before .before .before .before .before .before .before
+start-before-slice-known4 c = start-before-slice-known2 (tape-length-before-copy-at-arg2 (c .before .before .before) .before)
 
 abbrev tape-length-before-commit-frames-arg2 : tie.After-commit-frames-arg2 → tie.After-tape-length
 tape-length-before-commit-frames-arg2 c = c .before .before .before .before .before .before .before .before .before .before .before .before .before .before
@@ -111,7 +114,7 @@ returns c =
     let s = entry x in
     let k = s .pre in
     let a = s .args in
-    let known = w .before .before .before .before .before .before .before .before .before .before .before .before in
+    let known = salt-known-before-copy-at2 w in
     let front = take 16 (a .public .now) in (
       c .before .output .ensures
           ∙ first-hashed (valid s) (witness-is w) front (a .roots .now) (bytes-of (known .before .before .shared-slice-known3 .given))
@@ -149,5 +152,6 @@ commit-pass-spec =
     (λ c. refl)
     (λ c κs. tt)
     (λ c. commit-frames-before-h2 c .commit-frames .kept .1 .1 .1 .1 .1 .0)
-    (λ c. let x = commit-frames-before-h2 c in same-len-mid 0 (lent x - 0) (entry x .args .work .now) (x .commit-frames .last .1 .1 .1 .1 .1 .1 .0) (x .commit-frames .kept .1 .1 .1 .1 .1 .1 .0))
+    (λ c. let x = commit-frames-before-h2 c in same-len-mid 0 (lent x - 0) (entry x .args .work .now) (x .commit-frames .last .1 .1 .1 .1 .1 .1 .0)
+    (x .commit-frames .kept .1 .1 .1 .1 .1 .1 .0))
     returns)

@@ -31,13 +31,13 @@ abbrev copy-at2-before-slice-known9 : tie.After-slice-known9 → tie.After-copy-
 copy-at2-before-slice-known9 c = c .before .before .before .before .before .before .before
 
 abbrev answer-passes-before-slice-known9 : tie.After-slice-known9 → tie.After-answer-passes
-answer-passes-before-slice-known9 c = c .before .before .before .before .before .before .before .before .before .before .before .before .before .before .before .before .before .before
+answer-passes-before-slice-known9 c = answer-passes-before-h12 (c .before .before .before .before .before .before .before .before)
 
 abbrev commit-pass-before-h12 : tie.After-h12 → tie.After-commit-pass
-commit-pass-before-h12 c = c .before .before .before .before .before .before .before .before .before .before .before .before .before .before .before .before .before
+commit-pass-before-h12 c = answer-passes-before-h12 c .before .before .before .before .before .before .before
 
 abbrev commit-pass-before-slice-known9 : tie.After-slice-known9 → tie.After-commit-pass
-commit-pass-before-slice-known9 c = c .before .before .before .before .before .before .before .before .before .before .before .before .before .before .before .before .before .before .before .before .before .before .before .before .before
+commit-pass-before-slice-known9 c = commit-pass-before-h12 (c .before .before .before .before .before .before .before .before)
 
 -- ---- the frames, lent as `&mut out[96..end]`
 
@@ -59,8 +59,15 @@ module _ (s : tie.Start) where
 commit-pass-requires : tie.Need-commit-pass-requires
 commit-pass-requires c κs =
     let s = start-before-slice-known2 (c .before .before .before) in
-    let g = s .pre .0 in
-    (record { valid = g .valid; frames-size = lent-size s }, g .key-size, inverses-size (g .valid) (witness s), g .public-size, g .salt-size, g .roots-size, s .pre .2)
+    let g = s .pre .0 in (
+      record { valid = g .valid; frames-size = lent-size s },
+      g .key-size,
+      inverses-size (g .valid) (witness s),
+      g .public-size,
+      g .salt-size,
+      g .roots-size,
+      s .pre .2,
+    )
 
 module _ (b : tie.After-commit-pass) where
   abbrev start : tie.Start
@@ -148,7 +155,8 @@ returns c =
           (frames-kept x ∙ lent-size (entry x)) (g .salt-size) (h1-size (begun x)) (h3-size x) (copy-at-before-h3 (c .before .before .before) .copy-at .ensures)
           (copy-at2-before-slice-known9 c .copy-at2 .ensures) (c .before .before .copy-at3 .ensures)
           ∙ signature-is (a .shape) (a .key .now) (a .public .now) (a .message .now) (a .salt .now) (a .roots .now)
-          (first-made (g .valid) (witness (entry x)) (passes x)) (third-made (g .valid) (witness (entry x)) (passes x)) (frames-made (g .valid) (witness (entry x)) (passes x)),
+          (first-made (g .valid) (witness (entry x)) (passes x)) (third-made (g .valid) (witness (entry x)) (passes x))
+          (frames-made (g .valid) (witness (entry x)) (passes x)),
       scratch-then (begun x .commit-pass .ensures .1 .1) (x .answer-passes .ensures .1),
     )
 
@@ -168,5 +176,6 @@ make-spec =
     (λ c. sym (h3-size (answer-passes-before-h12 (c .before .before .before .before .before))))
     copy-at-requires-3
     same-length
-    (λ c. answer-passes-before-slice-known9 c .answer-passes .kept .1 .1 .1 .1 .1 .1 .1 .1 .0 ∙ commit-pass-before-slice-known9 c .commit-pass .kept .1 .1 .1 .1 .1 .1 .1 .1 .0)
+    (λ c. answer-passes-before-slice-known9 c .answer-passes .kept .1 .1 .1 .1 .1 .1 .1 .1 .0
+    ∙ commit-pass-before-slice-known9 c .commit-pass .kept .1 .1 .1 .1 .1 .1 .1 .1 .0)
     returns)

@@ -19,6 +19,9 @@ use Rattle.make_signature.proofs.offset_pass.Tie as tie
 
 -- ---- earlier moments
 
+abbrev h1-known-before-true-rows : tie.After-true-rows → tie.After-shared-slice-known3
+h1-known-before-true-rows c = c .before .before .before .before .before .before .before .before .before .before .before .before .before
+
 abbrev start-before-struct-known : tie.After-struct-known → tie.Start
 start-before-struct-known c = c .before .before .before .before .before .before .before .before .before .before
 
@@ -77,7 +80,8 @@ module _ (f : tie.After-frame-length) where
   entry = start rows-made
 
   frames-size : length (made .offset-frames .last .1 .1 .1 .1 .1 .0) ≡ entry .args .shape .executions * f .frame-length .result
-  frames-size = made .offset-frames .kept .1 .1 .1 .1 .1 .0 ∙ entry .pre .0 .frames-size ∙ ap (entry .args .shape .executions *_) (sym (f .frame-length .ensures .0))
+  frames-size = made .offset-frames .kept .1 .1 .1 .1 .1 .0 ∙ entry .pre .0 .frames-size
+      ∙ ap (entry .args .shape .executions *_) (sym (f .frame-length .ensures .0))
 
 -- the product offsets stand behind the others
 behind : (o : tie.After-offset)
@@ -100,14 +104,15 @@ returns c =
     let s = entry f in
     let a = s .args in
     let v = valid s in
-    let drawn = r .before .before .before .before .before .before .before .before .before .draw .ensures ∙ ap (shake128 (6 ∷ a .h1 .now)) (s .pre .4) in
+    let drawn = draw-before-true-rows r .draw .ensures ∙ ap (shake128 (6 ∷ a .h1 .now)) (s .pre .4) in
     let rows = r .true-rows .ensures in (
       drawn,
       (
         offset-right v (a .h1 .now) (a .inputs .now) (a .inverses .now) (a .frames .now) (rows .0) (rows .1 .0) (rows .1 .1) drawn
             (x .offset-frames .ensures),
         c .before .output .ensures
-            ∙ second-hashed v (bytes-of (r .before .before .before .before .before .before .before .before .before .before .before .before .before .shared-slice-known3 .given)) (bytes-of (f .before .slice-known6 .given))
+            ∙ second-hashed v (bytes-of (h1-known-before-true-rows r .shared-slice-known3 .given))
+            (bytes-of (f .before .slice-known6 .given))
             (t .tagged .ensures) (c .before .before .before .absorb-column .ensures) (behind o) (f .frame-length .ensures .0),
       ),
     )
@@ -135,6 +140,6 @@ offset-pass-spec =
     absorb-column-requires
     (λ c. refl)
     (λ c κs. tt)
-    (λ c. rows-made (frame-length-before-h2 c) .before .before .before .before .before .before .before .before .before .draw .kept .1 .1 .0)
+    (λ c. draw-before-true-rows (rows-made (frame-length-before-h2 c)) .draw .kept .1 .1 .0)
     (λ c. made (frame-length-before-h2 c) .offset-frames .kept .1 .1 .1 .1 .1 .0)
     returns)

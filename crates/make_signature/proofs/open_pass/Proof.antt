@@ -20,6 +20,9 @@ use Rattle.make_signature.proofs.open_pass.Tie as tie
 
 -- ---- earlier moments
 
+abbrev h2-known-before-draw : tie.After-draw → tie.After-shared-slice-known4
+h2-known-before-draw c = c .before .before .before .before .before .before .before .before .before
+
 abbrev draw-before-open-frames-arg3 : tie.After-open-frames-arg3 → tie.After-draw
 draw-before-open-frames-arg3 c = c .before .before .before .before .before .before .before
 
@@ -93,11 +96,13 @@ returns c =
     let front = take 16 (a .public .now) in (
       c .before .output .ensures
           ∙ third-hashed (valid s) (a .h2 .now) (seconds-are d) front (a .salt .now) (a .roots .now) (a .firsts .now) (a .frames .now)
-          (bytes-of (d .before .before .before .before .before .before .before .before .before .shared-slice-known4 .given)) (x .before .before .before .before .before .tagged .ensures) (x .open-frames .ensures .1),
+          (bytes-of (h2-known-before-draw d .shared-slice-known4 .given)) (x .before .before .before .before .before .tagged .ensures)
+          (x .open-frames .ensures .1),
       (
         opened-right (valid s) (a .h2 .now) (seconds-are d) front (a .salt .now) (a .roots .now) (a .firsts .now) (a .frames .now)
             (x .open-frames .ensures .0),
-        scratch-front (lent x) (a .work .now) (x .open-frames .last .1 .1 .1 .1 .1 .1 .1 .0) (omega (arith, rows-most (valid s) (sized d .row-length .ensures .1))) (s .pre .6) (x .open-frames .kept .1 .1 .1 .1 .1 .1 .1 .0),
+        scratch-front (lent x) (a .work .now) (x .open-frames .last .1 .1 .1 .1 .1 .1 .1 .0)
+            (omega (arith, rows-most (valid s) (sized d .row-length .ensures .1))) (s .pre .6) (x .open-frames .kept .1 .1 .1 .1 .1 .1 .1 .0),
       ),
     )
 
@@ -118,10 +123,12 @@ open-pass-spec =
     (λ c. omega (arith, start-before-slice-known3 (c .before) .pre .1))
     (λ c. omega arith)
     (λ c. omega arith)
-    (λ c. let d = c .before .before .before .before .before .before in omega (arith, rows-most (valid (start d)) (sized d .row-length .ensures .1), start d .pre .6))
+    (λ c. let d = c .before .before .before .before .before .before in
+    omega (arith, rows-most (valid (start d)) (sized d .row-length .ensures .1), start d .pre .6))
     open-frames-requires
     (λ c. refl)
     (λ c κs. tt)
     (λ c. open-frames-before-h2 c .open-frames .kept .1 .1 .1 .1 .1 .1 .0)
-    (λ c. let x = open-frames-before-h2 c in same-len-mid 0 (lent x - 0) (entry x .args .work .now) (x .open-frames .last .1 .1 .1 .1 .1 .1 .1 .0) (x .open-frames .kept .1 .1 .1 .1 .1 .1 .1 .0))
+    (λ c. let x = open-frames-before-h2 c in same-len-mid 0 (lent x - 0) (entry x .args .work .now) (x .open-frames .last .1 .1 .1 .1 .1 .1 .1 .0)
+    (x .open-frames .kept .1 .1 .1 .1 .1 .1 .1 .0))
     returns)

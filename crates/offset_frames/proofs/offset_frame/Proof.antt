@@ -98,7 +98,8 @@ offset-frame-spec =
     (λ c. few (start (c .before)))
     (λ c. omega arith)
     (λ c. omega arith)
-    (λ c. let m = c .before .before .before in let s = start m in sum-room (s .pre .0 .valid) (s .args .frame .now) (s .pre .2) (from m) (sized m .tape-length .ensures .0))
+    (λ c. let m = c .before .before .before in let s = start m in
+    sum-room (s .pre .0 .valid) (s .args .frame .now) (s .pre .2) (from m) (sized m .tape-length .ensures .0))
     product-offsets-requires
     copy-at-requires
     (λ c. c .before .before .before .copy-at .kept .0)

@@ -15,4 +15,5 @@ returns c =
 pub opening-length-spec : {M : Type 1} → statement M
 opening-length-spec =
     tie.close
-    (tie.spec (λ c κs. search needs) (λ c. search needs) (λ c. search needs) (λ c. omega (arith, c .before .transcript-length .ensures .1, c .before .before .pre .shallow)) returns)
+    (tie.spec (λ c κs. search needs) (λ c. search needs) (λ c. search needs)
+    (λ c. omega (arith, c .before .transcript-length .ensures .1, c .before .before .pre .shallow)) returns)

@@ -27,6 +27,8 @@ transcript-sizes-spec =
     (λ c. search needs)
     (λ c. let s = c .before .before .before .before .before .before in omega (arith, by-points (s .pre) (s .args .shape .wide)))
     (λ c. let s = start-before-struct-known7 c in omega (arith, parties-by (s .pre) (s .args .shape .wide)))
-    (λ c. let s = start-before-struct-known7 (c .before) in let w = s .args .shape .wide in omega (arith, parties-by (s .pre) (s .args .shape .m1 * w), columns-most (s .pre)))
-    (λ c. let s = start-before-struct-known7 (c .before .before) in let w = s .args .shape .wide in omega (arith, parties-by (s .pre) (s .args .shape .m1 * w), columns-most (s .pre)))
+    (λ c. let s = start-before-struct-known7 (c .before) in let w = s .args .shape .wide in
+    omega (arith, parties-by (s .pre) (s .args .shape .m1 * w), columns-most (s .pre)))
+    (λ c. let s = start-before-struct-known7 (c .before .before) in let w = s .args .shape .wide in
+    omega (arith, parties-by (s .pre) (s .args .shape .m1 * w), columns-most (s .pre)))
     returns)

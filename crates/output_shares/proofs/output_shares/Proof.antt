@@ -106,7 +106,8 @@ returns c =
 pub output-shares-spec : {M : Type 1} → statement M
 output-shares-spec =
     tie.close
-    (tie.spec Inv-loop μ-loop (λ c κs. search needs) (λ c. let v = start-before-struct-known c .pre .0 in omega (arith, all-sboxes v, v .columns)) (λ c. search needs)
+    (tie.spec Inv-loop μ-loop (λ c κs. search needs) (λ c. let v = start-before-struct-known c .pre .0 in omega (arith, all-sboxes v, v .columns))
+    (λ c. search needs)
     (λ c. search needs) (λ c. let v = start-before-struct-known c .pre .0 in omega (arith, all-sboxes v, v .columns)) (λ c. search needs) (λ c. search needs)
     (λ c. let v = start-before-struct-known (c .before) .pre .0 in omega (arith, all-sboxes v, v .columns)) loop-holds
     (λ c. omega (arith, read c, most c)) (λ c. omega (arith, read c, most c)) (λ c. search needs) (λ c. search needs) (λ c. read c) walk-requires

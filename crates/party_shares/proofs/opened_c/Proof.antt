@@ -13,6 +13,14 @@ use Rattle.party_shares.proofs.Laws.{front-long, products-are, c-first,
 use Rattle.party_shares.proofs.opened_c.Statement.{statement}
 use Rattle.party_shares.proofs.opened_c.Tie as tie
 
+-- ---- earlier moments
+
+abbrev tape-part-before-load : tie.After-load → tie.After-tape-part
+tape-part-before-load c = c .before .before .before .before .before .before .before
+
+abbrev start-before-load : tie.After-load → tie.Start
+start-before-load c = c .before .before .before .before .before .before .before .before .before .before .before .before .before
+
 part-bytes-end : tie.Need-part-bytes-end
 part-bytes-end c =
     let s = c .before .before .before .before in
@@ -43,13 +51,13 @@ load-requires c κs =
 dot-requires : tie.Need-dot-requires
 dot-requires c κs =
     let l = c .before .before .before in
-    let p = l .before .before .before .before .before .before .before in
+    let p = tape-part-before-load l in
     let s = p .before .before .before .before .before .before in
     (wide-field (s .pre .0) .fits, omega (arith, l .load .kept .1 .1 .0, s .pre .3))
 
 -- P's shares
 values : (l : tie.After-load)
-    → let a = l .before .before .before .before .before .before .before .before .before .before .before .before .before .args in
+    → let a = start-before-load l .args in
     l .load .last .1 .1 .0 ≡ ownProducts (a .shape) (a .product .now) (a .i) (a .tape .now)
 values l =
     let o = l .before .before .before .before .before in
@@ -62,7 +70,7 @@ returns : tie.Need-returns
 returns c =
     let d = c .before in
     let l = d .before .before .before .before in
-    let s = l .before .before .before .before .before .before .before .before .before .before .before .before .before in
+    let s = start-before-load l in
     let a = s .args in
     c-first (s .pre .0) (a .product .now) (a .far .now) (a .given) (a .i) (a .tape .now) (values l) (d .dot .ensures) (c .if1 .taken)
 
@@ -70,7 +78,7 @@ returns-2 : tie.Need-returns-2
 returns-2 c =
     let d = c .before in
     let l = d .before .before .before .before in
-    let s = l .before .before .before .before .before .before .before .before .before .before .before .before .before in
+    let s = start-before-load l in
     let a = s .args in
     c-other (s .pre .0) (a .product .now) (a .far .now) (a .given) (a .i) (a .tape .now) (values l) (d .dot .ensures) (c .if1 .left)
 

@@ -160,7 +160,8 @@ returns c =
     (length-numbers w (a .shape .m1) _)
     (b-worked v (a .first .now) (a .tables .now) (a .last) (a .tape .now) e (pairs (roomed l)) h (a .inverses .now)
     (stored v (λ j u. valueT (a .shape) u (getD x (2 * j + 1) 0) (a .last))
-    (tabledRow (a .shape) (a .inverses .now) (a .tables .now)) (t .before .before .before .before .before .before .rows3 .ensures) (t .values-t .ensures) (second .store2 .ensures)))
+    (tabledRow (a .shape) (a .inverses .now) (a .tables .now)) (t .before .before .before .before .before .before .rows3 .ensures)
+    (t .values-t .ensures) (second .store2 .ensures)))
     (halves-room v (s .pre .6))
 
 pub opened-row-spec : {M : Type 1} → statement M
@@ -169,7 +170,8 @@ opened-row-spec =
     (tie.spec (λ c. search needs) (λ c. zero-le) (λ c. zero-le) (λ c. search needs) (λ c. zero-le) (λ c. zero-le) (λ c. search needs) (λ c. zero-le)
     (λ c. zero-le) (λ c. search needs) (λ c κs. search needs) load-requires (λ c. half-word (start (roomed (c .before .before .before)) .pre .0)) rows-requires
     values-s-requires (λ c. zero-le) (λ c. zero-le)
-    (λ c. let s = start (roomed (loaded (rowed (c .before .before .before)))) in half-room (s .pre .0) (s .pre .6)) store-requires rows-requires-2 values-t-requires
+    (λ c. let s = start (roomed (loaded (rowed (c .before .before .before)))) in half-room (s .pre .0) (s .pre .6)) store-requires rows-requires-2
+    values-t-requires
     (λ c. let p = entry (first-stored (c .before .before .before .before .before)) .pre in half-room (p .0) (p .6))
     (λ c. let p = entry (first-stored (c .before .before .before .before .before)) .pre in half-room (p .0) (p .6))
     (λ c. let k = first-stored (c .before .before .before .before .before) in no-shorter (kept k)) store-requires-2 same-length returns)

@@ -7,6 +7,11 @@ use Rattle.print_verdict.proofs.Laws.{decimal-room, refusal-written}
 use Rattle.print_verdict.proofs.print_refusal.Statement.{statement}
 use Rattle.print_verdict.proofs.print_refusal.Tie as tie
 
+-- ---- earlier moments
+
+abbrev copy-at-before-decimal-arg2 : tie.After-decimal-arg2 → tie.After-copy-at
+copy-at-before-decimal-arg2 c = c .before .before .before .before .before .before .before
+
 -- the entry, seen from each call of `decimal`
 abbrev entry1 : tie.After-decimal-arg → tie.Start
 entry1 c = c .before .before .before .before .before .before .before
@@ -46,7 +51,7 @@ returns : tie.Need-returns
 returns c =
     let k = c .before .before .before in
     let s = entry2 k in
-    let copied = k .before .before .before .before .before .before .before .copy-at in
+    let copied = copy-at-before-decimal-arg2 k .copy-at in
     let first = k .before .before .before .decimal in
     let second = c .before .before .decimal2 in
     refusal-written (s .args .number) (s .args .place) (s .args .out .now) (s .pre) (s .fits .number) (s .fits .place)

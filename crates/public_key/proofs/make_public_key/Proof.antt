@@ -72,7 +72,8 @@ make-public-key-spec =
     (λ c. sym (length-replicate {A = ℕ} 200 0))
     (λ c κs. (fits (c .before) .0, (fits (c .before) .1, length-replicate {A = ℕ} 200 0)))
     (λ c. zero-le) (λ c. zero-le)
-    (λ c. le-of-eq (sym (c .before .before .encrypt .kept .1 .1 .0 ∙ length-replicate {A = ℕ} 200 0))) (λ c κs. tt) (λ c. in-byte (c .if4 .taken) (lit≤ tt)) returns-4
+    (λ c. le-of-eq (sym (c .before .before .encrypt .kept .1 .1 .0 ∙ length-replicate {A = ℕ} 200 0))) (λ c κs. tt)
+    (λ c. in-byte (c .if4 .taken) (lit≤ tt)) returns-4
     (λ c κs. let f = fits (given (c .before .before)) in plaintext-room (f .1) (f .2))
     (λ c. ciphertext-long (encrypt-before-ciphertext c)) copy-at-requires-2
     (λ c.

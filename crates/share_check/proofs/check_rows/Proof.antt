@@ -35,5 +35,6 @@ returns c =
 pub check-rows-spec : {M : Type 1} → statement M
 check-rows-spec =
     tie.close
-    (tie.spec (λ c κs. (c .before .before .before .before .before) .pre) (λ c. lit≤ tt) (λ c. lit≤ tt) (λ c. omega (arith, key-size ((start (c .before .before)) .pre .0))) (λ c. half-most _) (λ c. half-most _)
+    (tie.spec (λ c κs. (c .before .before .before .before .before) .pre) (λ c. lit≤ tt) (λ c. lit≤ tt)
+    (λ c. omega (arith, key-size ((start (c .before .before)) .pre .0))) (λ c. half-most _) (λ c. half-most _)
     (λ c. search needs) (λ c. zero-le) (λ c. zero-le) (λ c. half-most _) compare-rows-requires (λ c. search needs) returns)

@@ -43,5 +43,6 @@ returns-2 c =
 pub compare-rows-spec : {M : Type 1} → statement M
 compare-rows-spec =
     tie.close
-    (tie.spec (λ c κs. (c .before .before .before) .pre .0) first-difference-requires (λ c. omega (arith, c .if1 .taken, (start (c .before .before .before)) .pre .0 .few)) returns (λ c. zero-le)
+    (tie.spec (λ c κs. (c .before .before .before) .pre .0) first-difference-requires
+    (λ c. omega (arith, c .if1 .taken, (start (c .before .before .before)) .pre .0 .few)) returns (λ c. zero-le)
     (λ c. zero-le) part-sums-end (λ c κs. search needs) returns-2)

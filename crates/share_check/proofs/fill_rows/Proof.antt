@@ -102,13 +102,20 @@ returns c =
     let z = z1 r in
     let s = start z in
     halves-put (w r) (n z) (s .pre .2) (r .rows .ensures) (stated-length (s .pre .0) (s .args .seeds .now))
-    (made-right (s .pre .0) (s .args .seeds .now) (z .transcript-sizes .ensures) ((field-before-share-rows x) .field .ensures) refl ((x .before .before .before .before .before) .field2 .ensures)
-    ((x .before .before .before .before) .field3 .ensures) ((x .before .before .before) .field4 .ensures) ((x .before .before) .field5 .ensures) (x .share-rows .ensures))
+    (made-right (s .pre .0) (s .args .seeds .now) (z .transcript-sizes .ensures) ((field-before-share-rows x) .field .ensures) refl
+    ((x .before .before .before .before .before) .field2 .ensures)
+    ((x .before .before .before .before) .field3 .ensures) ((x .before .before .before) .field4 .ensures) ((x .before .before) .field5 .ensures)
+    (x .share-rows .ensures))
 
 pub fill-rows-spec : {M : Type 1} → statement M
 fill-rows-spec =
     tie.close
-    (tie.spec (λ c κs. (c .before .before .before .before) .pre .0 .valid) (λ c. sym (ap length (c .before .transcript-sizes .ensures))) (λ c. zero-le) (λ c. zero-le) (λ c. half-most _)
-    rows-requires (λ c κs. asked (c .before .before .before .before .before) 0 (omega arith)) (λ c. lit≤ tt) (λ c. lit≤ tt) (λ c. omega (arith, key-size ((start-before-field c) .pre .0)))
-    (λ c κs. asked (transcript-sizes-before-share-rows-arg c) 4 (omega arith)) (λ c κs. asked (transcript-sizes-before-share-rows-arg (c .before)) 5 (omega arith)) (λ c κs. asked (transcript-sizes-before-share-rows-arg (c .before .before)) 6 (omega arith)) (λ c κs. asked (transcript-sizes-before-share-rows-arg (c .before .before .before)) 7 (omega arith))
+    (tie.spec (λ c κs. (c .before .before .before .before) .pre .0 .valid) (λ c. sym (ap length (c .before .transcript-sizes .ensures)))
+    (λ c. zero-le) (λ c. zero-le) (λ c. half-most _)
+    rows-requires (λ c κs. asked (c .before .before .before .before .before) 0 (omega arith)) (λ c. lit≤ tt) (λ c. lit≤ tt)
+    (λ c. omega (arith, key-size ((start-before-field c) .pre .0)))
+    (λ c κs. asked (transcript-sizes-before-share-rows-arg c) 4 (omega arith))
+    (λ c κs. asked (transcript-sizes-before-share-rows-arg (c .before)) 5 (omega arith))
+    (λ c κs. asked (transcript-sizes-before-share-rows-arg (c .before .before)) 6 (omega arith))
+    (λ c κs. asked (transcript-sizes-before-share-rows-arg (c .before .before .before)) 7 (omega arith))
     (λ c. half-most _) (λ c. half-most _) (λ c. omega (arith, written-long (rows-before-field5 c))) share-rows-requires same-length returns)

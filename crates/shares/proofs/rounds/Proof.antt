@@ -65,6 +65,11 @@ Inv-loop one key plaintext z inputs₀ k₀ x₀ n₀ inputs k x n =
 abbrev μ-loop : tie.MeasureT-loop
 μ-loop one key plaintext z inputs₀ k₀ x₀ n₀ inputs k x n = 10 - n
 
+-- ---- earlier moments
+
+abbrev start-before-loop : tie.At-loop Inv-loop μ-loop → tie.Start Inv-loop μ-loop
+start-before-loop c = c .before .before .before .before .before .before .before .before
+
 loop-holds : tie.Need-loop-holds Inv-loop μ-loop
 unfolding roundKeyShare
 loop-holds c =
@@ -89,7 +94,7 @@ loop-again c =
     let first = second .before .before .before .before .before in
     let word = first .before .before in
     let at = word .before .before .before in
-    let start = at .before .before .before .before .before .before .before .before in
+    let start = start-before-loop at in
     let one = start .args .one in
     let key = start .args .key .now in
     let plaintext = start .args .plaintext .now in

@@ -103,14 +103,16 @@ pub +expand-shown-spec : {M : Type 1} → statement M
     (λ c. zero-le)
     (λ c. zero-le)
     (λ c. seed t (c .before .before .before .before .before .before))
-    (λ c. half t (c .before .before .before .before .before .before .before))
-    (λ c. half t (c .before .before .before .before .before .before .before))
+    (λ c. let called = c .before .before .before in half t (called .before .before .before .before))
+    (λ c. let called = c .before .before .before in half t (called .before .before .before .before))
     (λ c.
-    let first = c .before .before .before .expand-shown in
-    whole t (c .before .before .before .before .before .before .before) (first .last .1 .1 .1 .1 .1 .1 .0) (first .kept .1 .1 .1 .1 .1 .1 .0))
+    let called = c .before .before .before in
+    let first = called .expand-shown in
+    whole t (called .before .before .before .before) (first .last .1 .1 .1 .1 .1 .1 .0) (first .kept .1 .1 .1 .1 .1 .1 .0))
     (λ c κs.
-    let first = c .before .before .before .before .expand-shown in
-    let k = c .before .before .before .before .before .before .before .before in
+    let called = c .before .before .before .before in
+    let first = called .expand-shown in
+    let k = called .before .before .before .before in
     let s = start t k in
     let b = below t k in
     let room = second-half b (s .args .out .now) (s .pre .1 .2) (first .last .1 .1 .1 .1 .1 .1 .0) (first .kept .1 .1 .1 .1 .1 .1 .0) in
@@ -135,14 +137,16 @@ pub +expand-shown-spec : {M : Type 1} → statement M
     (λ c. seed t (c .before .before .before .before .before .before))
     (λ c. seed t (c .before .before .before .before .before .before))
     (λ c. le-refl _)
-    (λ c. half t (c .before .before .before .before .before .before .before))
-    (λ c. half t (c .before .before .before .before .before .before .before))
+    (λ c. let called = c .before .before .before in half t (called .before .before .before .before))
+    (λ c. let called = c .before .before .before in half t (called .before .before .before .before))
     (λ c.
-    let first = c .before .before .before .expand2 in
-    whole t (c .before .before .before .before .before .before .before) (first .last .1 .1 .1 .1 .1 .0) (first .kept .1 .1 .1 .1 .1 .0))
+    let called = c .before .before .before in
+    let first = called .expand2 in
+    whole t (called .before .before .before .before) (first .last .1 .1 .1 .1 .1 .0) (first .kept .1 .1 .1 .1 .1 .0))
     (λ c κs.
-    let first = c .before .before .before .before .expand2 in
-    let k = c .before .before .before .before .before .before .before .before in
+    let called = c .before .before .before .before in
+    let first = called .expand2 in
+    let k = called .before .before .before .before in
     let s = start t k in
     let b = below t k in
     let room = second-half b (s .args .out .now) (s .pre .1 .2) (first .last .1 .1 .1 .1 .1 .0) (first .kept .1 .1 .1 .1 .1 .0) in
@@ -153,9 +157,11 @@ pub +expand-shown-spec : {M : Type 1} → statement M
     shown-none _ _ _ _ _ _ _ (tested .if1 .taken) (tested .before .before .before .before .pre .1 .2) (c .before .before .zero .ensures))
     (λ c. search needs)
     (λ c.
-    let second = c .before .before .expand in
-    let first = c .before .before .before .before .before .before .before .expand-shown in
-    let tested = c .before .before .before .before .before .before .before .before .before .before in
+    let again = c .before .before in
+    let second = again .expand in
+    let called = again .before .before .before .before .before in
+    let first = called .expand-shown in
+    let tested = called .before .before .before in
     let k = tested .before in
     let s = start t k in
     let a = s .args in
@@ -165,9 +171,11 @@ pub +expand-shown-spec : {M : Type 1} → statement M
     (tested .if2 .taken) (first .ensures) (second .ensures))
     (λ c. search needs)
     (λ c.
-    let second = c .before .before .expand-shown2 in
-    let first = c .before .before .before .before .before .before .before .expand2 in
-    let tested = c .before .before .before .before .before .before .before .before .before .before in
+    let again = c .before .before in
+    let second = again .expand-shown2 in
+    let called = again .before .before .before .before .before in
+    let first = called .expand2 in
+    let tested = called .before .before .before in
     let k = tested .before in
     let s = start t k in
     let a = s .args in

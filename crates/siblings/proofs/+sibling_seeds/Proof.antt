@@ -93,12 +93,12 @@ pub +sibling-seeds-spec : {M : Type 1} → statement M
     (λ c κs.
     let k = c .before .before .before .before in
     omega (arith, step t k .other, room t (k .before)))
-    (λ c. omega (arith, below t (c .before .before .before .before .before .before .before .before)))
-    (λ c. omega (arith, step t (c .before .before .before .before .before .before .before) .place))
+    (λ c. omega (arith, below t (way t (c .before .before) .before)))
+    (λ c. omega (arith, step t (way t (c .before .before)) .place))
     (λ c. search needs)
     (λ c. search needs)
-    (λ c. omega (arith, step t (c .before .before .before .before .before .before .before .before) .place))
-    (λ c. omega (arith, room t (c .before .before .before .before .before .before .before .before .before .before)))
+    (λ c. omega (arith, step t (way t (c .before .before .before)) .place))
+    (λ c. omega (arith, room t (way t (c .before .before .before .before) .before)))
     (λ c. search needs)
     (λ c. omega (arith, c .before .before .before .before .copy-at .kept .0))
     (λ c κs.
@@ -110,8 +110,9 @@ pub +sibling-seeds-spec : {M : Type 1} → statement M
     ))
     (λ c. search needs)
     (λ c.
-    let call = c .before .before .sibling-seeds in
-    let w = c .before .before .before .before .before .before .before .before in
+    let called = c .before .before in
+    let call = called .sibling-seeds in
+    let w = called .before .before .before .before .before .before in
     let k = way t w in
     both _ _ (wrote t w) (room t (k .before)) (call .kept .1 .1 .1 .1 .1 .1 .0)
     ∙ step t k .joined (call .ensures))

@@ -52,8 +52,9 @@ pub +expand-spec : {M : Type 1} → statement M
     (λ c. let k = c .before .before .before .before .before .before in omega (arith, below t k)) (λ c. search needs)
     (λ c. search needs) (λ c. search needs) (λ c. search needs) (λ c. search needs) (λ c. search needs)
     (λ c κs.
-    let first = c .before .before .before .before .before .expand in
-    let k = c .before .before .before .before .before .before .before .before .before in
+    let called = c .before .before .before .before .before in
+    let first = called .expand in
+    let k = called .before .before .before .before in
     let s = k .before .before .before .before .before in
     let b = below t k in
     let long = both-long _ _ _ _ (k .children .ensures) in
@@ -63,9 +64,11 @@ pub +expand-spec : {M : Type 1} → statement M
     (λ c. leaves-none _ _ _ _ _ (c .before .before .before .before .if1 .taken) (c .before .before .copy .ensures))
     (λ c. search needs)
     (λ c.
-    let second = c .before .before .expand2 in
-    let first = c .before .before .before .before .before .before .before .before .expand in
-    let k = c .before .before .before .before .before .before .before .before .before .before .before .before in
+    let again = c .before .before in
+    let second = again .expand2 in
+    let called = again .before .before .before .before .before .before in
+    let first = called .expand in
+    let k = called .before .before .before .before in
     let a = k .before .before .before .before .before .args in
     let d = a .out .now in
     join d (first .last .1 .1 .1 .1 .1 .0) (length d / 2) (omega arith) (first .kept .1 .1 .1 .1 .1 .0) (second .last .1 .1 .1 .1 .1 .0)

@@ -22,8 +22,10 @@ returns c =
     let s = known .before .before in (
       t .tables2 .ensures .0,
       (
-        rows-right (s .pre .0) (s .args .x) (s .args .shape .m1) (bytes-of (known .before .shared-slice-known .given)) (t .tables2 .ensures .1) (first .rows .ensures),
-        rows-right (s .pre .0) (s .args .x) (s .args .shape .m1) (bytes-of (known .shared-slice-known2 .given)) (t .tables2 .ensures .1) (second .rows2 .ensures),
+        rows-right (s .pre .0) (s .args .x) (s .args .shape .m1) (bytes-of (known .before .shared-slice-known .given)) (t .tables2 .ensures .1)
+            (first .rows .ensures),
+        rows-right (s .pre .0) (s .args .x) (s .args .shape .m1) (bytes-of (known .shared-slice-known2 .given)) (t .tables2 .ensures .1)
+            (second .rows2 .ensures),
       ),
     )
 

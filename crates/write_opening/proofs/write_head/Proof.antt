@@ -1,26 +1,27 @@
--- `write_opening::write_head` meets its contract: salt, e, the commitments and the output shares are written one after the other. Assumes nothing.
-use mathlib.Core.Path.{sym, ap, _∙_}
-use mathlib.Core.List.{List, [], _∷_, _++_}
+-- `write_opening::write_head` meets its contract: salt, e and the commitments are written one after the other. Assumes nothing.
+use mathlib.Core.Path.{_≡_, refl, sym, ap, _∙_}
+use mathlib.Core.List.{List, [], _∷_, _++_, append-assoc}
 use Prim.Native.Nat.{ℕ, _+_, _-_, _*_, _≤_}
 use native.Mathlib.Omega.{arith}
+use lib.Dec.{lit<}
 use lib.ListN.{length, set}
 use borrow.Author.Needs.{needs}
 use borrow.Rule.Slice.PartMut.{putMid}
 use Rattle.slices.specs.Lists.{rows, row}
-use Rattle.slices.proofs.Put.{Wrote, wrote-none, wrote-more, wrote-one, lent-long, wrote-lent}
+use Rattle.slices.proofs.Put.{Wrote, wrote-none, wrote-one, lent-long, wrote-lent}
 use Rattle.banquet.specs.Sets.{schemeOf}
 use Rattle.banquet.specs.Hash.{commitment}
 use Rattle.party.specs.Party.{partyHash}
-use Rattle.columns.specs.Column.{columnOf}
-use Rattle.write_opening.specs.Written.{outputs}
-use Rattle.write_opening.proofs.Laws.{placed-head}
+use Rattle.fields.specs.Offsets.{sizes-fit, offset-is}
+use Rattle.sets.specs.Bounds.{transcript-most}
+use Rattle.write_opening.proofs.Laws.{placed, wrote-to, wrote-put}
 use Rattle.write_opening.proofs.write_head.Statement.{statement}
 use Rattle.write_opening.proofs.write_head.Tie as tie
 
 -- the parts and where they begin
-module _ (c : tie.After-row-length) where
+module _ (c : tie.After-offset2) where
   abbrev start : tie.Start
-  start = c .before .before .before .before .before
+  start = c .before .before .before .before .before .before .before
 
   abbrev n : ℕ
   n = start .args .shape .parties
@@ -35,98 +36,80 @@ module _ (c : tie.After-row-length) where
   out = start .args .out .now
 
   abbrev a : ℕ
-  a = 33 + n * 32
+  a = c .before .offset .result
 
   abbrev b : ℕ
-  b = a + n * 16
+  b = c .offset2 .result
 
   abbrev commits : List ℕ
   commits = rows (λ i. commitment (schemeOf (start .args .shape)) salt e i (row 16 i (start .args .seeds .now))) n
 
-  abbrev shares : List ℕ
-  shares = outputs (start .args .shape) (start .args .rows .now)
+  a-is : a ≡ 33
+  a-is = omega (arith, offset-is (c .before .before .before .transcript-sizes .ensures) (transcript-most (start .pre .0)) 2 (c .before .offset .ensures) .0)
+
+  b-is : b ≡ 33 + n * 32
+  b-is = omega (arith, offset-is (c .before .before .before .transcript-sizes .ensures) (transcript-most (start .pre .0)) 3 (c .offset2 .ensures) .0)
 
   room : b ≤ length out
-  room = omega (arith, start .pre .4)
+  room = omega (arith, b-is, start .pre .3)
 
 -- what is written
 module _ (c : tie.After-copy-at) where
-  abbrev r1 : tie.After-row-length
-  r1 = c .before .before
+  abbrev z1 : tie.After-offset2
+  z1 = c .before .before
 
-  abbrev l1 : List ℕ
-  l1 = set (c .copy-at .last .0) 32 (e r1)
+  salted : Wrote (out z1) (salt z1) (length (salt z1)) (c .copy-at .last .0)
+  salted = wrote-put (salt z1) (wrote-none (out z1)) refl (c .copy-at .ensures) (omega arith) (c .copy-at .kept .0)
 
-  salted : Wrote (out r1) (salt r1) 32 (c .copy-at .last .0)
-  salted = wrote-more (salt r1) (wrote-none (out r1)) (start r1 .pre .1) (c .copy-at .ensures) (c .copy-at .kept .0)
-
-  w1 : Wrote (out r1) (salt r1 ++ (e r1 ∷ [])) 33 l1
-  w1 = wrote-one (e r1) salted (omega (arith, room r1))
+  w1 : Wrote (out z1) (salt z1 ++ (e z1 ∷ [])) (a z1) (set (c .copy-at .last .0) (length (salt z1)) (e z1))
+  w1 = wrote-to (omega (arith, a-is z1, start z1 .pre .1)) refl (wrote-one (e z1) salted (omega (arith, room z1, b-is z1, start z1 .pre .1)))
 
 module _ (c : tie.After-hash-rows) where
   abbrev c1 : tie.After-copy-at
   c1 = c .before .before .before .before
 
-  abbrev r2 : tie.After-row-length
-  r2 = r1 c1
+  abbrev z2 : tie.After-offset2
+  z2 = z1 c1
 
-  abbrev l2 : List ℕ
-  l2 = putMid 33 (a r2 - 33) (l1 c1) (c .hash-rows .last .1 .1 .1 .1 .1 .1 .0)
-
-  w2 : Wrote (out r2) ((salt r2 ++ (e r2 ∷ [])) ++ commits r2) (a r2) l2
+  w2 : Wrote (out z2) ((salt z2 ++ (e z2 ∷ [])) ++ commits z2) (b z2)
+      (putMid (a z2) (b z2 - a z2) (set (c1 .copy-at .last .0) (length (salt z2)) (e z2)) (c .hash-rows .last .1 .1 .1 .1 .1 .1 .0))
   unfolding commitment partyHash
   w2 =
-      wrote-lent (commits r2) (a r2) (w1 c1) (omega arith) (omega (arith, room r2)) (c .hash-rows .ensures)
+      wrote-lent (commits z2) (b z2) (w1 c1) (omega (arith, a-is z2, b-is z2)) (room z2) (c .hash-rows .ensures)
       (c .hash-rows .kept .1 .1 .1 .1 .1 .1 .0)
 
-module _ (c : tie.After-column) where
-  abbrev c2 : tie.After-hash-rows
-  c2 = c .before .before .before .before
+offset-requires : tie.Need-offset-requires
+offset-requires c κs =
+    let s = c .before .before .before .before .before in
+    let e = c .before .transcript-sizes .ensures in
+    (rw e (omega arith), sizes-fit e (transcript-most (s .pre .0)) (lit< tt))
 
-  abbrev r3 : tie.After-row-length
-  r3 = r2 c2
-
-  abbrev l3 : List ℕ
-  l3 = putMid (a r3) (b r3 - a r3) (l2 c2) (c .column .last .1 .1 .1 .1 .1 .0)
-
-  w3 : Wrote (out r3) (((salt r3 ++ (e r3 ∷ [])) ++ commits r3) ++ shares r3) (b r3) l3
-  w3 =
-      wrote-lent (shares r3) (b r3) (w2 c2) (omega arith) (room r3)
-      (c .column .ensures ∙ ap (λ (k : ℕ). columnOf (n r3) k 0 16 (start r3 .args .rows .now)) (r3 .row-length .ensures .0))
-      (c .column .kept .1 .1 .1 .1 .1 .0)
+offset-requires-2 : tie.Need-offset-requires-2
+offset-requires-2 c κs =
+    let s = c .before .before .before .before .before .before in
+    let e = c .before .before .transcript-sizes .ensures in
+    (rw e (omega arith), sizes-fit e (transcript-most (s .pre .0)) (lit< tt))
 
 hash-rows-requires : tie.Need-hash-rows-requires
 hash-rows-requires c κs =
     let k = c .before .before .before in
-    let r = r1 k in
-    let v = start r .pre in
-    (v .1, omega (arith, v .0), v .2, lent-long (a r) (w1 k) (omega (arith, room r)) ∙ omega arith)
-
-column-requires : tie.Need-column-requires
-column-requires c κs =
-    let k = c .before .before .before in
-    let r = r2 k in (
-      start r .pre .3 ∙ ap (λ (k : ℕ). n r * k) (sym (r .row-length .ensures .0)),
-      omega (arith, r .row-length .ensures .0),
-      lent-long (b r) (w2 k) (room r) ∙ omega arith,
-    )
+    let z = z1 k in
+    let p = start z .pre in
+    (p .1, omega (arith, p .0 .few), p .2, lent-long (b z) (w1 k) (room z) ∙ omega (arith, a-is z, b-is z))
 
 returns : tie.Need-returns
 returns c =
     let k = c .before .before in
-    let r = r3 k in
-    let w = placed-head (salt r) (e r) (commits r) (shares r) (w3 k) in
-    (w .0, w .1, omega arith)
+    let z = z2 k in
+    placed {at = 0} (omega arith) (salt z ++ e z ∷ commits z) (wrote-to refl (append-assoc (salt z) (e z ∷ []) (commits z)) (w2 k))
 
 pub write-head-spec : {M : Type 1} → statement M
 write-head-spec =
     tie.close
-    (tie.spec (λ c κs. search needs) (λ c. omega (arith, room c)) (λ c. omega (arith, room c)) (λ c. omega (arith, room c))
-    (λ c. omega (arith, room c))
-    (λ c κs. let r = c .before in omega (arith, room r, start r .pre .1))
-    (λ c. let k = c .before .before in omega (arith, room (r1 k), salted k .long))
-    (λ c. omega arith) (λ c. omega arith)
-    (λ c. let k = c .before .before in omega (arith, room (r1 k), w1 k .long))
-    hash-rows-requires (λ c. omega arith) (λ c. omega arith)
-    (λ c. let k = c .before .before in omega (arith, room (r2 k), w2 k .long))
-    column-requires (λ c. w3 (c .before .before) .long) returns)
+    (tie.spec (λ c κs. search needs) (λ c. sym (ap length (c .before .transcript-sizes .ensures))) offset-requires offset-requires-2
+    (λ c κs. let z = c .before in omega (arith, room z, b-is z, start z .pre .1))
+    (λ c. let k = c .before .before in let z = z1 k in omega (arith, room z, b-is z, start z .pre .1, salted k .long))
+    (λ c. let z = z1 (c .before .before) in omega (arith, a-is z, b-is z))
+    (λ c. let z = z1 (c .before .before) in omega (arith, a-is z, b-is z))
+    (λ c. let k = c .before .before in omega (arith, room (z1 k), w1 k .long))
+    hash-rows-requires (λ c. w2 (c .before .before) .long) returns)

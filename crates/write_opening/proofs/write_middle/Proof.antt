@@ -1,26 +1,20 @@
 -- `write_opening::write_middle` meets its contract: each call writes the next field, and what stands before it is carried along. Assumes nothing.
 use mathlib.Core.Path.{_≡_, refl}
-use mathlib.Core.List.{List, _++_}
+use mathlib.Core.List.{List, _++_, append-assoc}
 use Prim.Native.Nat.{ℕ, _+_, _^_, _<_, _≤_}
 use native.Mathlib.Omega.{arith}
 use lib.ListN.{length, take}
 use Rattle.slices.specs.Numbers.{bytesOf, length-bytesOf}
 use Rattle.slices.proofs.Put.{Wrote, wrote-more}
-use Rattle.sets.specs.Bounds.{by-points}
-use Rattle.write_opening.specs.Written.{middleLength}
-use Rattle.write_opening.proofs.Laws.{wrote-here, placed5}
+use Rattle.write_opening.specs.Written.{middle}
+use Rattle.write_opening.proofs.Laws.{wrote-here, wrote-to, placed, middle-long}
 use Rattle.write_opening.proofs.write_middle.Statement.{statement}
 use Rattle.write_opening.proofs.write_middle.Tie as tie
-
--- ---- earlier moments
-
-abbrev copy-at-arg2-before-struct-known : tie.After-struct-known → tie.After-copy-at-arg2
-copy-at-arg2-before-struct-known c = c .before .before .before .before .before .before .before .before .before .before .before .before .before .before .before .before
 
 -- the fields and where they begin
 module _ (s : tie.Start) where
   abbrev wide : ℕ
-  wide = s .args .shape .wide
+  wide = s .args .wide
 
   abbrev at : ℕ
   at = s .args .at
@@ -44,16 +38,13 @@ module _ (s : tie.Start) where
   second = bytesOf wide (s .args .second)
 
   abbrev p : ℕ
-  p = at + 16 + length inverse + length first
+  p = at + length key + length inverse + length first
 
   abbrev q : ℕ
   q = p + length product
 
-  ends : q + wide ≡ at + middleLength (s .args .shape)
-  ends = omega (arith, s .pre .2, s .pre .3, s .pre .4, by-points (s .pre .0) wide)
-
   room : q + wide ≤ length out
-  room = omega (arith, ends, s .pre .5)
+  room = omega (arith, middle-long wide key inverse first product (s .args .second), s .pre .1)
 
   begun : at ≤ length out
   begun = omega (arith, room)
@@ -63,14 +54,14 @@ module _ (c : tie.After-copy-at) where
   abbrev s1 : tie.Start
   s1 = c .before .before .before .before .before .before .before
 
-  w1 : Wrote (out s1) (take (at s1) (out s1) ++ key s1) (at s1 + 16) (c .copy-at .last .0)
-  w1 = wrote-more (key s1) (wrote-here (at s1) (out s1) (begun s1)) (s1 .pre .1) (c .copy-at .ensures) (c .copy-at .kept .0)
+  w1 : Wrote (out s1) (take (at s1) (out s1) ++ key s1) (at s1 + length (key s1)) (c .copy-at .last .0)
+  w1 = wrote-more (key s1) (wrote-here (at s1) (out s1) (begun s1)) refl (c .copy-at .ensures) (c .copy-at .kept .0)
 
 module _ (c : tie.After-copy-at2) where
   abbrev s2 : tie.Start
   s2 = s1 (c .before .before .before .before)
 
-  w2 : Wrote (out s2) ((take (at s2) (out s2) ++ key s2) ++ inverse s2) (at s2 + 16 + length (inverse s2)) (c .copy-at2 .last .0)
+  w2 : Wrote (out s2) ((take (at s2) (out s2) ++ key s2) ++ inverse s2) (at s2 + length (key s2) + length (inverse s2)) (c .copy-at2 .last .0)
   w2 = wrote-more (inverse s2) (w1 (c .before .before .before .before)) refl (c .copy-at2 .ensures) (c .copy-at2 .kept .0)
 
 module _ (c : tie.After-copy-at3) where
@@ -105,27 +96,21 @@ module _ (c : tie.After-slice-known) where
   fits : q s0 + wide s0 < 2 ^ 64
   fits = omega (arith, room s0)
 
-add-result : tie.Need-add-result
-add-result c =
-    let e = copy-at-arg2-before-struct-known c in
-    omega (arith, fits (e .before .before .before .before .before))
-
 returns : tie.Need-returns
 returns c =
-    let k = c .before .before .before in
+    let k = c .before .before in
     let s = s5 k in
-    let w = placed5 (begun s) (key s) (inverse s) (first s) (product s) (second s) (w5 k) in
-    (w .0, w .1, omega (arith, ends s))
+    let e : ((((take (at s) (out s) ++ key s) ++ inverse s) ++ first s) ++ product s) ++ second s
+    ≡ take (at s) (out s) ++ middle (wide s) (key s) (inverse s) (first s) (product s) (s .args .second) = simp append-assoc in
+    placed (begun s) (middle (wide s) (key s) (inverse s) (first s) (product s) (s .args .second)) (wrote-to refl e (w5 k))
 
 pub write-middle-spec : {M : Type 1} → statement M
 write-middle-spec =
     tie.close
-    (tie.spec (λ c. omega (arith, fits c)) (λ c. omega (arith, fits c)) (λ c. omega (arith, fits c))
-    (λ c. omega (arith, fits c))
-    (λ c κs. let s = s0 (c .before) in omega (arith, room s, s .pre .1))
+    (tie.spec (λ c. omega (arith, fits c)) (λ c. omega (arith, fits c)) (λ c. omega (arith, fits c)) (λ c. omega (arith, fits c))
+    (λ c κs. let s = s0 (c .before) in omega (arith, room s))
     (λ c κs. let k = c .before .before .before in omega (arith, room (s1 k), w1 k .long))
     (λ c κs. let k = c .before .before .before in omega (arith, room (s2 k), w2 k .long))
     (λ c κs. let k = c .before .before .before in omega (arith, room (s3 k), w3 k .long))
-    (λ c κs. let k = c .before .before .before in (omega (arith, s4 k .pre .0 .wide-most), omega (arith, room (s4 k), w4 k .long)))
-    add-result
-    (λ c. w5 (c .before .before .before) .long) returns)
+    (λ c κs. let k = c .before .before .before in (s4 k .pre .0, omega (arith, room (s4 k), w4 k .long)))
+    (λ c. w5 (c .before .before) .long) returns)

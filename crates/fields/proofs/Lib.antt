@@ -1,0 +1,2 @@
+-- Laws for proofs of functions: a layout written field by field.
+pub mod Wrote
