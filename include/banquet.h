@@ -103,8 +103,8 @@ extern "C" {
 
 /*
  * Stack that is enough for one call, with margin. Measured by tests/stack.c:
- * verify_card 73,984, verify 21,040, sign 19,952, open 17,440,
- * verify_opening 11,648, public_key 784.
+ * verify_card 73,912, verify 20,968, sign 20,376, open 17,688,
+ * verify_opening 11,912, public_key 784.
  */
 #define BANQUET_STACK_BYTES 131072
 

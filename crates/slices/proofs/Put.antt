@@ -8,6 +8,7 @@ use lib.ListN.{length, getD, set, take, drop, length-append, length-drop, length
 use lib.Seq.{drop-cons, set-at, drop-drop, drop-at, take-at, drop-append-add, length-take-le}
 use borrow.Rule.Slice.PartMut.{putMid, same-len-mid}
 use Rattle.slices.specs.Lists.{put}
+use Rattle.slices.specs.Tab.{length-part}
 
 -- what a callee left in `&mut d[a..a + k]`, said of d
 pub put-mid : (a k : ℕ) (d y s : List ℕ) → y ≡ s → k ≡ length s → putMid a k d y ≡ put d a s
@@ -66,6 +67,19 @@ unfolding front put
 front-more p d s {l} {r} {at} e h w =
     w ∙ rw (e, h)
     (simp (take-at p (drop (length p) d) (length p) refl, drop-append-add p (drop (length p) d) (length s), drop-drop, length-append, append-assoc))
+
+-- a list put at any index, as a front
+put-front : (d : List ℕ) (at : ℕ) (s : List ℕ) → at ≤ length d → put d at s ≡ front (take at d ++ s) d
+unfolding put front
+put-front d at s h =
+    sym (append-assoc (take at d) s (drop (at + length s) d)) ∙ ap (λ n. (take at d ++ s) ++ drop n d) (sym (length-head d at s h))
+
+-- q put behind s
+pub put-behind : (d : List ℕ) (at : ℕ) (s q : List ℕ) {l r : List ℕ} {at′ : ℕ} → at ≤ length d → at′ ≡ at + length s
+    → l ≡ put d at s → r ≡ put l at′ q → r ≡ put d at (s ++ q)
+put-behind d at s q h e f g =
+    front-more (take at d ++ s) d q (f ∙ put-front d at s h) (e ∙ sym (length-head d at s h)) g
+    ∙ ap (λ t. front t d) (append-assoc (take at d) s q) ∙ sym (put-front d at (s ++ q) h)
 
 -- l is d with its first n elements replaced by p
 pub record Wrote (d p : List ℕ) (n : ℕ) (l : List ℕ) : Type 0 where
@@ -129,4 +143,4 @@ front-again n d {y} h = rw sub-zero (take-at y (drop n d) n h)
 pub cut-long : (a b : ℕ) {n : ℕ} (s : List ℕ) → a + n ≡ b → b ≤ length s → length (take (b - a) (drop a s)) ≡ n
 cut-long a b {n} s e h =
     let size : b - a ≡ n = omega arith in
-    rw size (length-take-le n (drop a s) (omega (arith, length-drop a s)))
+    rw size (length-part a n s (omega arith))

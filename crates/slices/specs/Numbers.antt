@@ -2,7 +2,7 @@
 use mathlib.Core.Path.{_≡_, refl, sym, ap, ap₂, _∙_}
 use mathlib.Core.List.{List, [], _∷_, _++_}
 use Prim.Native.Nat.{ℕ, zero, suc, _+_, _*_, _/_, _%_, _^_, _<_, _≤_}
-use native.Mathlib.Nat.{mod-lt, mod-eq-of-lt, zero-lt-suc, not-suc-le-zero, le-of-suc-le-suc, mod-one}
+use native.Mathlib.Nat.{mod-lt, mod-eq-of-lt, zero-lt-suc, not-suc-le-zero, le-of-suc-le-suc, mod-one, mul-assoc}
 use native.Mathlib.Omega.{arith}
 use lib.ListN.{length, getD, length-take}
 use lib.Pow.{pow-pos, pow-add, shr-shr, mod-pow-add}
@@ -67,6 +67,15 @@ unfolding number
 number-lt [] w p l = pow-pos (8 * w)
 number-lt (b ∷ s) zero p l = absurd (omega arith)
 number-lt (b ∷ s) (suc w) p l = omega (arith, number-lt s w (tail-bytes p) (omega arith), p .lt 0, pow-eight w)
+
+-- of two lists, one behind the other
+pub number-append : (s t : List ℕ) → number (s ++ t) ≡ number s + 2 ^ (8 * length s) * number t
+unfolding number
+number-append [] t = omega arith
+number-append (b ∷ s) t =
+    let more : 2 ^ (8 * suc (length s)) * number t ≡ 256 * (2 ^ (8 * length s) * number t) =
+    ap (_* number t) (pow-eight (length s)) ∙ mul-assoc 256 (2 ^ (8 * length s)) (number t) in
+    omega (arith, number-append s t, more)
 
 -- ---- there and back
 

@@ -4,7 +4,6 @@ use mathlib.Core.List.{List, [], _∷_, _++_}
 use Prim.Native.Nat.{ℕ, zero, suc, _<_, _≤_, max}
 use native.Mathlib.Omega.{arith}
 use lib.Bits.{bitXor, xor-comm, xor-zero-r, xor-lt, xor-self}
-use lib.Seq.{ext-getD}
 use lib.ListN.{length, getD, drop, replicate}
 use Rattle.slices.specs.Lists.{tab, zipXor, sumXor}
 use Rattle.slices.specs.Xor.{xor-assoc}
@@ -78,12 +77,16 @@ pub sized-zip : {n : ℕ} {xs ys : List ℕ} → Sized n xs → Sized n ys → S
 sized-zip {n} {xs} {ys} p q = record { size = length-zip n xs ys (p .size) (q .size); bytes = zip-bytes (p .bytes) (q .bytes) }
 
 -- what is added twice is gone
+pub zip-twice : (xs ys : List ℕ) → length ys ≤ length xs → zipXor (zipXor xs ys) ys ≡ xs
+unfolding zipXor
+zip-twice [] [] h = refl
+zip-twice [] (y ∷ ys) h = absurd (omega arith)
+zip-twice (x ∷ xs) [] h = refl
+zip-twice (x ∷ xs) (y ∷ ys) h =
+    ap₂ _∷_ (xor-assoc x y y ∙ ap (bitXor x) (xor-self y) ∙ xor-zero-r x) (zip-twice xs ys (omega arith))
+
 pub zip-undo : {n : ℕ} {xs ys : List ℕ} → Sized n xs → Sized n ys → zipXor (zipXor xs ys) ys ≡ xs
-zip-undo {n} {xs} {ys} p q =
-    ext-getD 0 _ _ (sized-zip (sized-zip p q) q .size ∙ sym (p .size))
-    (λ k l.
-    getD-zip (zipXor xs ys) ys k ∙ ap (λ (a : ℕ). bitXor a (getD ys k 0)) (getD-zip xs ys k) ∙ xor-assoc (getD xs k 0) (getD ys k 0) (getD ys k 0)
-    ∙ ap (bitXor (getD xs k 0)) (xor-self (getD ys k 0)) ∙ xor-zero-r (getD xs k 0))
+zip-undo {n} {xs} {ys} p q = zip-twice xs ys (omega (arith, p .size, q .size))
 
 -- ---- many lists
 

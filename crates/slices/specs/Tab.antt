@@ -1,4 +1,4 @@
--- Laws of `tab` and `rows`. Assumes nothing.
+-- Laws of `tab`, `part` and `rows`. Assumes nothing.
 use mathlib.Core.Path.{_≡_, refl, sym, ap, ap₂, _∙_}
 use mathlib.Core.List.{List, [], _∷_, _++_, map}
 use Prim.Native.Nat.{ℕ, zero, suc, _+_, _*_, _<_, _≤_}
@@ -7,7 +7,7 @@ use native.Mathlib.Decide.{ℕ-discrete}
 use native.Mathlib.Omega.{arith}
 use lib.Arith.{digits-lt}
 use lib.ListN.{length, getD, take, drop, replicate, length-append, length-drop, List·getD-append}
-use lib.Seq.{getD-append-add, getD-take, getD-drop, take-add, length-take-le}
+use lib.Seq.{getD-append-add, getD-take, getD-drop, take-add, drop-drop, length-take-le}
 use Rattle.slices.specs.Lists.{tab, rows, part, row}
 
 -- ---- tab
@@ -47,11 +47,19 @@ pub tab-snoc : {A : Type 0} (f : ℕ → A) (n : ℕ) (xs : List A) → tab f n 
 tab-snoc f zero xs = refl
 tab-snoc f (suc n) xs = ap (f 0 ∷_) (tab-snoc (λ k. f (suc k)) n xs)
 
+-- ---- parts
+
+pub length-part : (a n : ℕ) (s : List ℕ) → a + n ≤ length s → length (part a n s) ≡ n
+length-part a n s h = length-take-le n (drop a s) (omega (arith, length-drop a s))
+
 -- a part by its elements
 pub part-tab : (k a : ℕ) (s : List ℕ) → a + k ≤ length s → part a k s ≡ tab (λ i. getD s (a + i) 0) k
 part-tab k a s h =
-    let long : length (part a k s) ≡ k = length-take-le k (drop a s) (omega (arith, length-drop a s)) in
-    sym (tab-sized (part a k s) long) ∙ tab-cong k (λ i l. getD-take k (drop a s) i 0 l ∙ getD-drop a s i 0)
+    sym (tab-sized (part a k s) (length-part a k s h)) ∙ tab-cong k (λ i l. getD-take k (drop a s) i 0 l ∙ getD-drop a s i 0)
+
+-- one part behind the other
+pub part-append : (j n m : ℕ) (s : List ℕ) → part j (n + m) s ≡ part j n s ++ part (j + n) m s
+part-append j n m s = take-add n m (drop j s) ∙ ap (λ t. part j n s ++ take m t) (drop-drop n j s)
 
 -- ---- rows
 

@@ -1,7 +1,7 @@
 -- `squeeze::squeeze` meets its contract: at the loop's head the first j bytes of output are written. Assumes nothing.
 use mathlib.Core.Path.{_≡_, refl, ap, _∙_}
 use mathlib.Core.Logic.{⊎-elim}
-use Prim.Native.Nat.{_+_, _%_, _≤_, _<_, _-_}
+use Prim.Native.Nat.{_≤_, _<_, _-_}
 use native.Mathlib.Omega.{arith}
 use borrow.Author.Needs.{needs}
 use lib.ListN.{length}
@@ -24,7 +24,7 @@ abbrev μ-loop : tie.MeasureT-loop
 is-ready : (c : tie.Joined1 Inv-loop μ-loop)
     → let h = c .before .before .loop in sponge (c .if1 .lanes) (c .if1 .at) ≡ ready (sponge (h .lanes) (h .at))
 is-ready c =
-    ⊎-elim (λ w. ready-full _ (w .0 .taken) (w .2 ∙ w .1 .ensures) (w .3)) (λ w. ready-more _ (w .0 .left) (w .1) (w .2)) (c .if1 .came)
+    ⊎-elim (λ w. ready-full _ (w .0 .taken) (w .3 ∙ w .2 .ensures) (w .4)) (λ w. ready-more _ (w .0 .left) (w .1) (w .2)) (c .if1 .came)
 
 has-room : (c : tie.Joined1 Inv-loop μ-loop) → c .if1 .at < rate
 has-room c = ready-room _ (is-ready c)
@@ -35,19 +35,17 @@ loop-holds c = (omega arith, refl, wrote-none _)
 
 loop-again : tie.Need-loop-again Inv-loop μ-loop
 loop-again c =
-    let st = c .before .before .write in
-    let n = c .before .before .before .before in
-    let r = n .before .before in
+    let call = c .before .before .before .squeeze-some in
+    let r = c .before .before .before .before .before .before in
     let h = r .before .before in
     let a = h .before .before .before .args in
     let j = h .loop .j in
-    let w = n .piece .result in
-    let size = h .loop .inv .2 .long in
-    let some : 0 < w = omega arith in
-    let lane : r .if1 .at % 8 + w ≤ 8 = omega arith in (
-      omega arith,
-      rest-turn (a .s) (r .if1 .lanes) (r .if1 .at) j w (h .loop .inv .1) (is-ready r) some lane,
-      squeeze-turn (a .s) (r .if1 .lanes) (r .if1 .at) j w (h .loop .inv .1) (is-ready r) some lane (h .loop .inv .2) (st .ensures) (st .kept .0),
+    let w = call .result in
+    let e = call .ensures in
+    let size = h .loop .inv .2 .long in (
+      omega (arith, e .2),
+      rest-turn (a .s) (r .if1 .lanes) (r .if1 .at) j w (h .loop .inv .1) (is-ready r) (e .0) (e .1),
+      squeeze-turn (a .s) (r .if1 .lanes) (r .if1 .at) j w (h .loop .inv .1) (is-ready r) (e .0) (e .1) (h .loop .inv .2) (e .3) (call .kept .1 .1 .0),
     )
 
 same-length : tie.Need-same-length Inv-loop μ-loop
@@ -63,21 +61,5 @@ returns c =
 pub squeeze-spec : {M : Type 1} → statement M
 squeeze-spec =
     tie.close
-    (tie.spec
-    Inv-loop
-    μ-loop
-    loop-holds
-    (λ c κs. tt)
-    (λ c. search needs)
-    (λ c κs. tt)
-    (λ c. search needs)
-    (λ c. omega (arith, has-room (c .before .before)))
-    (λ c. search needs)
-    (λ c. search needs)
-    (λ c κs. search needs)
-    (λ c. omega (arith, has-room (c .before .before .before .before .before .before)))
-    (λ c. search needs)
-    (λ c. search needs)
-    loop-again
-    same-length
-    returns)
+    (tie.spec Inv-loop μ-loop loop-holds (λ c κs. tt) (λ c κs. (has-room (c .before .before), search needs))
+    (λ c. search needs) (λ c. search needs) (λ c. search needs) loop-again same-length returns)

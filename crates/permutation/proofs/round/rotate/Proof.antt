@@ -1,11 +1,11 @@
--- `permutation::rotate` meets its contract, by what `rotated` ensures of the five lanes. Assumes nothing.
+-- `permutation::round::rotate` meets its contract, by what `rotated` ensures of the five lanes. Assumes nothing.
 use mathlib.Core.Path.{refl}
-use Rattle.permutation.specs.State.{plane, turned}
-use Rattle.permutation.proofs.rotate.Statement.{statement}
-use Rattle.permutation.proofs.rotate.Tie as tie
+use Rattle.permutation.specs.State.{plane, rhoPlane}
+use Rattle.permutation.proofs.round.rotate.Statement.{statement}
+use Rattle.permutation.proofs.round.rotate.Tie as tie
 
 returns : tie.Need-returns
-unfolding plane turned
+unfolding plane rhoPlane
 returns c =
     let d = c .before in
     let e = d .before in

@@ -1,9 +1,9 @@
--- `permutation::add` meets its contract: both sides compute to the same list. Assumes nothing.
+-- `permutation::round::add` meets its contract: both sides compute to the same list. Assumes nothing.
 use mathlib.Core.Path.{refl}
 use Rattle.slices.specs.Lists.{zipXor}
 use Rattle.permutation.specs.State.{plane}
-use Rattle.permutation.proofs.add.Statement.{statement}
-use Rattle.permutation.proofs.add.Tie as tie
+use Rattle.permutation.proofs.round.add.Statement.{statement}
+use Rattle.permutation.proofs.round.add.Tie as tie
 
 returns : tie.Need-returns
 unfolding plane zipXor

@@ -1,4 +1,4 @@
--- `permutation::rotated` meets its contract: the two shifts are those of the definition. Assumes nothing.
+-- `permutation::round::rotated` meets its contract: the two shifts are those of the definition. Assumes nothing.
 use mathlib.Core.Path.{_≡_, ap, ap₂, _∙_}
 use Prim.Native.Nat.{ℕ, zero, suc, _<_, _-_, _*_, _/_, _%_, _^_}
 use native.Mathlib.Nat.{mod-eq-of-lt, mul-one, div-one}
@@ -6,8 +6,8 @@ use native.Mathlib.Omega.{arith}
 use borrow.Author.Needs.{needs}
 use lib.Bits.{bitOr, or-self}
 use Rattle.keccak.specs.Keccak.{rotl}
-use Rattle.permutation.proofs.rotated.Statement.{statement}
-use Rattle.permutation.proofs.rotated.Tie as tie
+use Rattle.permutation.proofs.round.rotated.Statement.{statement}
+use Rattle.permutation.proofs.round.rotated.Tie as tie
 
 shifts : (a k : ℕ) → a < 2 ^ 64 → k < 64 → bitOr (a * 2 ^ k % 2 ^ 64) (a / 2 ^ ((64 - k) % 64)) ≡ rotl a k
 unfolding rotl
