@@ -1,77 +1,112 @@
 #!/usr/bin/env python3
-"""Holds docs/TRACE.md to the documents and to the sources: python3 docs/trace.py 01-scope.md 00-demands.md, from the repository's root
+"""Holds docs/TRACE.md to the documents and to the sources, from the repository's root:
 
-Every quotation has to stand in its section of the document, in the document's order, and nothing of the document may be left over. Every name in
-backquotes has to exist, and every part of `where` has its word in `how`. Prints the rows and what is left of each section.
+    python3 docs/trace.py 01-scope.md 00-demands.md [02-change-requests.md]
+
+Every quotation has to stand in its section of the document, in the document's order, and nothing of the document may be left over. Every name has
+to exist, and every part of `where` has its word in `how`. A slip has landed if no row in its own section waits for it: then no other row waits for
+it, and before that no row is replaced by it. Without the third document the sections on it are not looked at, and nothing is asked of slips. Prints
+the rows and what is left of each section, and then what is wrong; the status is 0 if nothing is.
 """
+import glob
 import os
 import re
 import sys
+
+SLIP = 'slip ([1-9]|1[0-4])'
+SLIPS = f'(not yet|replaced): {SLIP}(, {SLIP})*'
 
 
 def plain(text):
     return re.sub(r'\s+', ' ', text)
 
 
+def sections_of(path, heading):
+    """The sections of a document by their titles, which are the one group of `heading`."""
+    parts = re.split(heading, open(path).read())[1:]
+    assert len(set(parts[::2])) == len(parts[::2]), f'two sections of one title: {path}'
+    return dict(zip(parts[::2], parts[1::2]))
+
+
 def exists(name):
-    """A file, a crate, crate/must-fail/edit, crate/Module, crate/Module.name or crate::name."""
+    """A file, a crate, crate/must-fail/edit, crate/Module, crate/Module.name or crate::name; a module in a folder is crate/Folder/Module."""
     if re.match(r'(docs|vectors)/', name):
         return os.path.exists(name)
     folder = 'crates/' + re.split('[/:]', name)[0]
     if not os.path.isdir(folder) or '/must-fail/' in name:
         return os.path.exists('crates/' + name)
     if '::' in name:
-        code = ''.join(open(f'{folder}/src/{f}').read() for f in os.listdir(folder + '/src'))
+        code = ''.join(open(path).read() for path in glob.glob(folder + '/src/**/*.rt', recursive=True))
         return re.search(r'\b(fn|const|enum|struct) ' + name.split('::')[1] + r'\b', code)
     if '/' not in name:
         return True
-    module, _, law = name.split('/')[1].partition('.')
+    module, _, law = name.split('/', 1)[1].partition('.')
     path = f'{folder}/specs/{module}.antt'
     declared = r'(?m)^\s*(unfoldable |abbrev )*(pub )?(record )?' + re.escape(law) + r'( :|\s*\(|\s*$)'
     return os.path.exists(path) and (not law or re.search(declared, open(path).read()))
 
 
-def check(row, text, covered, start):
-    """The complaints about a row, and where its quotation begins."""
-    quoted, where, how = row.strip().strip('|').split(' | ')
-    at, first = start, None
-    for piece in filter(None, map(str.strip, re.split(r' ?\.\. ?', quoted.strip()))):
+def quoted_from(quoted, text, covered, start):
+    """Where a quotation begins, at or behind `start`, and its pieces that aren't there; what it quotes is covered then."""
+    at, first, missing = start, None, []
+    for piece in filter(None, re.split(r' ?\.\. ?', quoted)):
         found = text.find(piece, at)
         if found < 0:
-            yield f'not there, or not in order: {piece}'
+            missing.append(piece)
             continue
         first = found if first is None else first
         at = found + len(piece)
         covered.update(range(found, at))
-    yield start if first is None else first
+    return start if first is None else first, missing
+
+
+def complaints(where, words):
+    if not re.fullmatch('–|`[^`]+`([,;] `[^`]+`)*', where):
+        yield f'neither – nor names in backquotes: {where}'
     for name in re.findall('`([^`]+)`', where):
         if not exists(name):
             yield f'no such name: {name}'
-    words = [w.strip() for w in how.split(';')]
     for word in words:
-        if not re.fullmatch(r'defined|promised|proved|run|form|refused|–|not yet: [\w ,]+', word):
+        if not re.fullmatch(r'defined|promised|proved|run|form|refused|–|' + SLIPS, word):
             yield f'not a word for how: {word}'
-    if len(where.split(';')) != len([w for w in words if not w.startswith('not yet')]):
-        yield f'where and how have different lengths: {quoted}'
+    parts = [] if where == '–' else where.split('; ')
+    own = [word for word in words if not re.fullmatch(SLIPS, word)]
+    if len(own) != len(parts) and not (where == '–' and words == ['–']):
+        yield 'where and how have different lengths'
 
 
-scope, demands = (open(path).read() for path in sys.argv[1:3])
-sections = {part.split('\n')[0].strip(): plain(part.split('\n', 1)[1]) for part in re.split('(?m)^## ', scope)[1:]}
-sections['The three demands'] = plain(' '.join(line[2:] for line in demands.split('\n') if line.startswith('> ')))
-traced = {part.split('\n')[0].strip(): part for part in re.split('(?m)^## ', open('docs/TRACE.md').read())[1:]}
-wrong = 0
+scope, demands, *requests = sys.argv[1:]
+sections = sections_of(scope, r'(?m)^## (.*)$')
+sections['The three demands'] = ' '.join(line[2:] for line in open(demands) if line.startswith('> '))
+for path in requests:
+    sections.update(sections_of(path, r'(?m)^(?:# |\*\*(?=Slip ))([^*\n]*)(?:\*\*)?'))
+traced = sections_of('docs/TRACE.md', r'(?m)^## (.*)$')
+wrong = [f'no such section: {title}' for title in traced if requests and title not in sections]
+waiting, open_, replacing = set(), set(), set()
 for title, text in sections.items():
-    rows = [line for line in traced[title].split('\n') if re.match(r'\| (?!0[01] \|)', line)]
-    covered, start = set(), 0
+    text, covered, start = plain(text), set(), 0
+    rows = [line for line in traced.get(title, '').split('\n') if re.match(r'\| (?!0[012] \|)', line)]
     for row in rows:
-        for answer in check(row, text, covered, start):
-            if isinstance(answer, int):
-                start = answer
+        cells = row.strip('| ').split(' | ')
+        if len(cells) != 3:
+            wrong.append(f'not three cells: {row}')
+            continue
+        quoted, where, words = cells[0], cells[1], cells[2].split('; ')
+        start, missing = quoted_from(quoted, text, covered, start)
+        wrong += [f'not there, or not in order: {piece}' for piece in missing]
+        wrong += [f'{complaint}, in the row of: {quoted}' for complaint in complaints(where, words)]
+        for word in filter(re.compile(SLIPS).fullmatch, words):
+            slips = set(re.findall(r'slip \d+', word))
+            if word.startswith('replaced'):
+                replacing |= slips
             else:
-                wrong += 1
-                print(answer)
+                waiting |= slips
+                open_ |= {slip for slip in slips if title.startswith(slip.capitalize() + '.')}
     left = ''.join(' ' if i in covered else c for i, c in enumerate(text))
     left = plain(re.sub(r'(?<!\S)- ', ' ', left)).strip(' .')
-    wrong += left != ''
+    wrong += [f'left over: {left}'] * (left != '')
     print(f'{title}: {len(rows)} rows; left: {left!r}')
-sys.exit(wrong != 0)
+wrong += [f'replaces a sentence, and has not landed: {slip}' for slip in sorted(replacing & open_)]
+wrong += [f'has landed, and a row waits for it: {slip}' for slip in sorted(waiting - open_) if requests]
+print('\n'.join(wrong) or 'nothing is wrong')
+sys.exit(wrong != [])

@@ -103,7 +103,7 @@ extern "C" {
 
 /*
  * Stack that is enough for one call, with margin. Measured by tests/stack.c:
- * verify_card 73,912, verify 20,968, sign 20,376, open 17,688,
+ * verify_card 73,944, verify 21,000, sign 19,960, open 17,880,
  * verify_opening 11,912, public_key 784.
  */
 #define BANQUET_STACK_BYTES 131072

@@ -1,6 +1,6 @@
 -- "What the lock turns down": answers with their numbers and places, refusals in order, and what a call leaves in the slices that it was lent.
 use mathlib.Core.Bool.{Bool, true, false, _&&_, _||_}
-use mathlib.Core.List.{List, _++_}
+use mathlib.Core.List.{List, [], _∷_, _++_}
 use Prim.Native.Nat.{ℕ, zero, suc}
 use lib.Dec.{eqb, leb}
 use lib.ListN.{length, drop, replicate}
@@ -80,6 +80,15 @@ verdictOf (TextForm n) = verdict 18 n
 unfoldable pub require : Bool → Answer → Answer → Answer
 require true refusal rest = rest
 require false refusal rest = refusal
+
+-- a test, and the refusal where it fails
+abbrev pub Test : Type 0
+Test = Bool × Answer
+
+-- the tests of a list one after the other, and the rest if all hold
+abbrev pub inOrder : List Test → Answer → Answer
+inOrder [] rest = rest
+inOrder (t ∷ tests) rest = require (t .0) (t .1) (inOrder tests rest)
 
 -- the same for the n numbers from i on: the lowest that fails names its refusal
 unfoldable pub each : ℕ → ℕ → (ℕ → Bool) → (ℕ → Answer) → Answer → Answer

@@ -14,10 +14,10 @@ use Rattle.banquet.specs.declared.Symbol.the-variants.{Value, LineEnd, O
 use Rattle.banquet.specs.declared.Verdict.{Verdict}
 use Rattle.banquet.specs.declared.Answer.{Answer}
 use Rattle.banquet.specs.declared.Answer.the-variants.{TextForm}
-use Rattle.banquet.specs.Shape.{messageLimit, workLength, publicKeyLength, headSizes, frameSizes}
+use Rattle.banquet.specs.Shape.{messageLimit, workLength, publicKeyLength, headLength, frameSizes}
 use Rattle.banquet.specs.Scheme.{Scheme}
-use Rattle.banquet.specs.Answer.{require, workAfter, verdictOf}
-use Rattle.banquet.specs.Calls.{Checked, verifyAnswer}
+use Rattle.banquet.specs.Answer.{require, verdictOf}
+use Rattle.banquet.specs.Calls.{Checked, checkedAfter, verifyAnswer}
 
 -- ---- digits
 
@@ -114,27 +114,26 @@ missing-line message size sizes n rest = refl
 
 -- ---- the card
 
+-- "public key, message (may be empty, at most 65,536 digits), the 96 head bytes, 41 frames": what each line stands for, with m bytes of message
+abbrev pub cardSizes : Shape → ℕ → List ℕ
+cardSizes S m = publicKeyLength S ∷ m ∷ headLength ∷ replicate (S .executions) (total (frameSizes S))
+
 module _ (𝓢 : Scheme) where
   open Shape (𝓢 .shape) using (executions)
-
-  -- "public key, message (may be empty, at most 65,536 digits), the 96 head bytes, 41 frames": what each line stands for, with m bytes of message
-  abbrev pub cardSizes : ℕ → List ℕ
-  cardSizes m =
-      publicKeyLength (𝓢 .shape) ∷ m ∷ total (headSizes (𝓢 .shape)) ∷ replicate executions (total (frameSizes (𝓢 .shape)))
 
   -- "this comes before all others": the answer to a card
   module _ (text work : List ℕ) where
     unfoldable pub verifyCardAnswer : Answer
     verifyCardAnswer =
-        checkLines 2 (cardSizes messageLimit) 1 text
+        checkLines 2 (cardSizes (𝓢 .shape) messageLimit) 1 text
         (verifyAnswer 𝓢 (decodedLine 1 text) (decodedLine 2 text) (decodedLines (1 + executions) (afterLine (afterLine text))) work)
 
     abbrev pub verifyCard : Checked
-    verifyCard = record { answer = verifyCardAnswer; work = workAfter verifyCardAnswer work }
+    verifyCard = checkedAfter verifyCardAnswer work
 
   -- the text of a card, each line with its end
   unfoldable pub cardText : List ℕ → List ℕ → List ℕ → List ℕ
-  cardText publicKey message signature = encodedLines (cardSizes (length message)) (publicKey ++ (message ++ signature))
+  cardText publicKey message signature = encodedLines (cardSizes (𝓢 .shape) (length message)) (publicKey ++ (message ++ signature))
 
 -- ---- what is printed
 

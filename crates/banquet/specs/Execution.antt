@@ -64,7 +64,22 @@ module _ (𝓢 : Scheme) where
   abbrev pub tapeProduct : List ℕ → ℕ → ℕ
   tapeProduct t k = numberAt wide (k - m2) (tapePart 3 t)
 
-  -- ---- party i with its tape t
+  -- ---- party i with its tape t: its share of P, and its share of c = P(R)
+
+  -- "Its shares at 0 to 19 are public: party 0 has the sum of the r, others 0"
+  abbrev pub publicProduct : ℕ → Challenge → ℕ
+  publicProduct i d = at i 0 (sum (wideOps 𝓢) m1 (d .first)) 0
+
+  module _ (i : ℕ) (t : List ℕ) (d : Challenge) where
+    -- P's share at the points 20 to 40: "they are tape shares with product offsets", which party 0 alone adds
+    unfoldable pub productAt : ℕ → ℕ
+    productAt k = at i 0 (bitXor (tapeProduct t k) (d .productOffset k)) (tapeProduct t k)
+
+    -- P goes through 41 points
+    unfoldable pub openedC : ℕ
+    openedC = through (suc (2 * m2)) (valuesP m2 (publicProduct i d) productAt) (d .second)
+
+  -- ---- its shares of the S-boxes, and of a_j = S_j(R) and b_j = T_j(R)
 
   module _ (x : Committed) (i : ℕ) (t : List ℕ) where
     -- "Party 0 alone adds offsets and public constants."
@@ -89,20 +104,9 @@ module _ (𝓢 : Scheme) where
     inverseAt j k = lifted 𝓢 (getD inverseShares (sboxAt (𝓢 .shape) j k) 0)
 
     module _ (d : Challenge) where
-      -- P's share at the points 20 to 40: "they are tape shares with product offsets", which party 0 alone adds
-      unfoldable pub productAt : ℕ → ℕ
-      productAt k = at i 0 (bitXor (tapeProduct t k) (d .productOffset k)) (tapeProduct t k)
-
-      -- "Its shares at 0 to 19 are public: party 0 has the sum of the r, others 0"
-      abbrev pub publicProduct : ℕ
-      publicProduct = at i 0 (sum (wideOps 𝓢) m1 (d .first)) 0
-
-      -- "Opened are c = P(R), a_j = S_j(R), b_j = T_j(R), with shares": the shares. P goes through 41 points, S_j and T_j through 21.
-      unfoldable pub openedC : ℕ
-      openedC = through (suc (2 * m2)) (valuesP (wideOps 𝓢) m1 m2 publicProduct productAt) (d .second)
-
+      -- "Opened are c = P(R), a_j = S_j(R), b_j = T_j(R), with shares": the shares. S_j and T_j go through 21 points.
       unfoldable pub openedA : ℕ → ℕ
-      openedA j = through (suc m2) (valuesS (wideOps 𝓢) m1 m2 (d .first) inputAt (tapeS t) j) (d .second)
+      openedA j = through (suc m2) (valuesS (wideOps 𝓢) m2 (d .first) inputAt (tapeS t) j) (d .second)
 
       unfoldable pub openedB : ℕ → ℕ
-      openedB j = through (suc m2) (valuesT (wideOps 𝓢) m1 m2 inverseAt (tapeT t) j) (d .second)
+      openedB j = through (suc m2) (valuesT m2 inverseAt (tapeT t) j) (d .second)

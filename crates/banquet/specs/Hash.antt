@@ -19,6 +19,10 @@ evaluationPoint m2 x = choose (ltb x m2) (x + m2) x
 unfoldable pub partyOf : ℕ → ℕ → ℕ
 partyOf parties x = x % parties
 
+-- "1: public key, message length, message, salt, then per execution ..": what stands before the executions
+abbrev pub firstInput : List ℕ → List ℕ → List ℕ → List ℕ
+firstInput publicKey message salt = 1 ∷ (publicKey ++ bytesOf 4 (length message) ++ message ++ salt)
+
 -- "5: salt, e, node v, seed; gives the seeds of nodes 2v+1 and 2v+2."
 unfoldable pub children : (List ℕ → ℕ → List ℕ) → List ℕ → ℕ → ℕ → List ℕ → List ℕ
 children hash salt e v seed = hash (5 ∷ (salt ++ e ∷ (bytesOf 4 v ++ seed))) 32
@@ -31,10 +35,10 @@ module _ (𝓢 : Scheme) where
   unfoldable pub commitment : List ℕ → ℕ → ℕ → List ℕ → List ℕ
   commitment salt e i seed = hash (0 ∷ (salt ++ e ∷ i ∷ seed)) 32
 
-  -- "1: public key, message length, message, salt, then per execution .."; "gives h1, 32 bytes."
+  -- input 1 "gives h1, 32 bytes."
   unfoldable pub firstHash : List ℕ → List ℕ → List ℕ → (ℕ → List ℕ) → List ℕ
   firstHash publicKey message salt perExecution =
-      hash (1 ∷ (publicKey ++ bytesOf 4 (length message) ++ message ++ salt ++ rows perExecution executions)) 32
+      hash (firstInput publicKey message salt ++ rows perExecution executions) 32
 
   -- "2: h1, all product offsets; gives h2, 32 bytes."
   unfoldable pub secondHash : List ℕ → (ℕ → List ℕ) → List ℕ

@@ -21,15 +21,20 @@ use Rattle.banquet.specs.declared.Answer.the-variants.{
 }
 use Rattle.banquet.specs.Shape.{transcriptSizes}
 use Rattle.banquet.specs.Scheme.{Scheme, wideOps, wideMul}
-use Rattle.banquet.specs.Answer.{require, each, all}
+use Rattle.banquet.specs.Answer.{Test, inOrder, each, all}
 use Rattle.banquet.specs.Hash.{commitment, tape}
 use Rattle.banquet.specs.Tree.{siblingSeeds, shownLeaves, seedAt}
 use Rattle.banquet.specs.Key.{frontOf, ciphertextOf}
 use Rattle.banquet.specs.Execution.{Committed, Challenge, challenge, outputShare, openedC, openedA, openedB}
 use Rattle.banquet.specs.Signer.{seedOf, tapeOf, ownCommitted, productOffsets}
 
+-- "An opening's execution is over 40, whether lent for opening or read in a check; 9 and 10 likewise.": numbers 8, 9 and 10, in order
+abbrev pub rangeTests : Shape → ℕ → ℕ → ℕ → List Test
+rangeTests S e hidden R =
+    (ltb e (S .executions), ExecutionRange) ∷ (ltb hidden (S .parties), HiddenPartyRange) ∷ (leb (S .m2) R, SecondChallengeRange) ∷ []
+
 module _ (𝓢 : Scheme) where
-  open Shape (𝓢 .shape) using (parties, depth, executions, wide, m1, m2)
+  open Shape (𝓢 .shape) using (parties, depth, wide, m1)
 
   -- ---- the parts of an opening o: the transcript, which is "all bytes before the hidden party", "hidden party 1, sibling seeds 64"
 
@@ -77,9 +82,26 @@ module _ (𝓢 : Scheme) where
     abbrev pub bOf : ℕ → ℕ → ℕ
     bOf i j = numberAt wide j (row (m1 * wide) i (transcriptPart 11))
 
+    -- "c isn't the sum of a_j times b_j": "Sums are taken from the shares."
+    abbrev pub sumC : ℕ
+    sumC = sum (wideOps 𝓢) parties cOf
+
+    abbrev pub sumA : ℕ → ℕ
+    sumA j = sum (wideOps 𝓢) parties (λ i. aOf i j)
+
+    abbrev pub sumB : ℕ → ℕ
+    sumB j = sum (wideOps 𝓢) parties (λ i. bOf i j)
+
+    abbrev pub productHolds : Bool
+    productHolds = eqb sumC (sum (wideOps 𝓢) m1 (λ j. wideMul 𝓢 (sumA j) (sumB j)))
+
     -- party i's tape under a seed
     abbrev pub tapeUnder : ℕ → List ℕ → List ℕ
     tapeUnder i seed = tape 𝓢 saltOf executionOf i seed
+
+    -- Party i under a seed has the stated commitment (13).
+    unfoldable pub commitmentHolds : ℕ → List ℕ → Bool
+    commitmentHolds i seed = same (commitment 𝓢 saltOf executionOf i seed) (commitmentOf i)
 
     -- "An opening shows every party that it doesn't hide, under the seed that its sibling seeds expand to."
     abbrev pub shownSeed : ℕ → List ℕ → ℕ → List ℕ
@@ -95,16 +117,13 @@ module _ (𝓢 : Scheme) where
       inverseOffsets = transcriptPart transcript 5;
     }
 
-    -- Party i under a seed has the stated commitment (13), and the stated shares (14).
-    unfoldable pub commitmentHolds : ℕ → List ℕ → Bool
-    commitmentHolds i seed = same (commitment 𝓢 (saltOf transcript) (executionOf transcript) i seed) (commitmentOf transcript i)
-
+    -- Party i under a seed has the stated shares (14).
     module _ (i : ℕ) (seed : List ℕ) where
       abbrev pub outputHolds : Bool
       outputHolds = same (outputShare 𝓢 committedOf i (tapeUnder transcript i seed)) (outputOf transcript i)
 
       abbrev pub cHolds : Bool
-      cHolds = eqb (openedC 𝓢 committedOf i (tapeUnder transcript i seed) (challengeOf transcript)) (cOf transcript i)
+      cHolds = eqb (openedC 𝓢 i (tapeUnder transcript i seed) (challengeOf transcript)) (cOf transcript i)
 
       abbrev pub aHolds : Bool
       aHolds = all m1 (λ j. eqb (openedA 𝓢 committedOf i (tapeUnder transcript i seed) (challengeOf transcript) j) (aOf transcript i j))
@@ -119,38 +138,23 @@ module _ (𝓢 : Scheme) where
     abbrev pub outputsHold : Bool
     outputsHold = same (sumXor parties (outputOf transcript)) (ciphertextOf 𝓢 publicKey)
 
-    -- "c isn't the sum of a_j times b_j": "Sums are taken from the shares."
-    abbrev pub sumC : ℕ
-    sumC = sum (wideOps 𝓢) parties (cOf transcript)
-
-    abbrev pub sumA : ℕ → ℕ
-    sumA j = sum (wideOps 𝓢) parties (λ i. aOf transcript i j)
-
-    abbrev pub sumB : ℕ → ℕ
-    sumB j = sum (wideOps 𝓢) parties (λ i. bOf transcript i j)
-
-    abbrev pub productHolds : Bool
-    productHolds = eqb sumC (sum (wideOps 𝓢) m1 (λ j. wideMul 𝓢 (sumA j) (sumB j)))
-
     -- Numbers 14 and 15, given the parties' seeds.
     unfoldable pub checkShares : ℕ → (ℕ → List ℕ) → Answer
     checkShares hidden seedOf =
         each parties 0 (λ i. eqb i hidden || sharesHold i (seedOf i)) ShareDiffers
-        (require outputsHold (ShareDiffers parties)
-        (require productHolds (ProductDiffers (executionOf transcript)) Accepted))
+        (inOrder
+        ((outputsHold, ShareDiffers parties) ∷ (productHolds transcript, ProductDiffers (executionOf transcript)) ∷ []) Accepted)
 
     -- Number 13, and then those.
     unfoldable pub checkParties : ℕ → (ℕ → List ℕ) → Answer
     checkParties hidden seedOf =
-        each parties 0 (λ i. eqb i hidden || commitmentHolds i (seedOf i)) CommitmentDiffers (checkShares hidden seedOf)
+        each parties 0 (λ i. eqb i hidden || commitmentHolds transcript i (seedOf i)) CommitmentDiffers (checkShares hidden seedOf)
 
     -- Numbers 8, 9 and 10, and then those.
     unfoldable pub checkOpening : ℕ → List ℕ → Answer
     checkOpening hidden seeds =
-        require (ltb (executionOf transcript) executions) ExecutionRange
-        (require (ltb hidden parties) HiddenPartyRange
-        (require (leb m2 (secondOf transcript)) SecondChallengeRange
-        (checkParties hidden (shownSeed transcript hidden seeds))))
+        inOrder (rangeTests (𝓢 .shape) (executionOf transcript) hidden (secondOf transcript))
+        (checkParties hidden (shownSeed transcript hidden seeds))
 
   -- ---- how an opening is made
 
@@ -173,7 +177,7 @@ module _ (𝓢 : Scheme) where
         (salt ∷ (e ∷ []) ∷ rows (λ i. commitment 𝓢 salt e i (seedOf 𝓢 salt root e i)) parties
         ∷ rows (λ i. outputShare 𝓢 x i (tapes i)) parties
         ∷ x .keyOffset ∷ x .inverseOffsets ∷ firstBytes ∷ offsets ∷ bytesOf wide R
-        ∷ numbers wide parties (λ i. openedC 𝓢 x i (tapes i) d)
+        ∷ numbers wide parties (λ i. openedC 𝓢 i (tapes i) d)
         ∷ rows (λ i. numbers wide m1 (openedA 𝓢 x i (tapes i) d)) parties
         ∷ rows (λ i. numbers wide m1 (openedB 𝓢 x i (tapes i) d)) parties ∷ [])
 

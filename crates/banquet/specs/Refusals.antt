@@ -1,16 +1,22 @@
 -- Refusals in order: a call accepts exactly where every test passes. Assumes nothing.
-use mathlib.Core.Path.{_≡_, refl, _∙_, ap}
+use mathlib.Core.Path.{_≡_, refl, sym, _∙_, ap}
 use mathlib.Core.Logic.{_≢_}
-use mathlib.Core.Bool.{Bool, true, false, _||_}
+use mathlib.Core.Bool.{Bool, true, false, not, _&&_, _||_, true≢false}
+use mathlib.Core.List.{List, [], _∷_, _++_}
 use Prim.Native.Nat.{ℕ, zero, suc, _+_, _≤_, _<_}
 use native.Mathlib.Omega.{arith}
 use native.Mathlib.Decide.{ℕ-discrete}
 use lib.Dec.{eqb}
-use borrow.Author.Tests.{eq-eqb, ne-eqb}
+use borrow.Author.Tests.{eq-eqb, ne-eqb, not-true}
 use Rattle.slices.specs.Tests.{and-split, and-join}
+use Rattle.poly.specs.Poly.{All}
 use Rattle.banquet.specs.declared.Answer.{Answer}
 use Rattle.banquet.specs.declared.Answer.the-variants.{Accepted}
-use Rattle.banquet.specs.Answer.{verdictOf, require, each, all}
+use Rattle.banquet.specs.Answer.{verdictOf, Test, require, inOrder, each, all, clears}
+
+-- after acceptance the work slice is cleared
+accepted-clears : (a : Answer) → clears (verdictOf a) ≡ false → a ≢ Accepted
+accepted-clears a f e = true≢false (sym (ap (λ (a : Answer). clears (verdictOf a)) e) ∙ f)
 
 -- ---- one test
 
@@ -22,6 +28,66 @@ require-split false a r n h = absurd (let z : verdictOf a .number ≡ 0 = ap (λ
 pub require-join : (t : Bool) (a r : Answer) → t ≡ true → r ≡ Accepted → require t a r ≡ Accepted
 unfolding require
 require-join t a r e h = rw (e, h)
+
+-- ---- a list of tests
+
+abbrev pub Pass : Test → Type 0
+Pass t = t .0 ≡ true
+
+-- where all pass, the rest is asked
+pub passed : (tests : List Test) (rest : Answer) → All Pass tests → inOrder tests rest ≡ rest
+unfolding require
+passed [] rest p = refl
+passed (t ∷ tests) rest p = ap (λ (b : Bool). require b (t .1) (inOrder tests rest)) (p .0) ∙ passed tests rest (p .1)
+
+-- "The first that applies is returned.": those before it pass, and this one fails
+pub refused-at : (before : List Test) (t : Test) (behind : List Test) (rest : Answer) → All Pass before → t .0 ≡ false
+    → inOrder (before ++ t ∷ behind) rest ≡ t .1
+unfolding require
+refused-at [] t behind rest p f = ap (λ (b : Bool). require b (t .1) (inOrder behind rest)) f
+refused-at (u ∷ before) t behind rest p f =
+    ap (λ (b : Bool). require b (u .1) (inOrder (before ++ t ∷ behind) rest)) (p .0) ∙ refused-at before t behind rest (p .1) f
+
+-- where the tests alone refuse, nothing else is asked
+pub refused-by : (tests : List Test) (rest : Answer) → inOrder tests Accepted ≢ Accepted → inOrder tests rest ≡ inOrder tests Accepted
+unfolding require
+refused-by [] rest n = absurd (n refl)
+refused-by ((true, a) ∷ tests) rest n = refused-by tests rest n
+refused-by ((false, a) ∷ tests) rest n = refl
+
+-- no test of the list answers with acceptance, or with a refusal after which the work slice is cleared
+abbrev pub leave : List Test → Bool
+leave [] = true
+leave (t ∷ tests) = not (clears (verdictOf (t .1))) && leave tests
+
+pub refusals-leave : (tests : List Test) → leave tests ≡ true → inOrder tests Accepted ≢ Accepted
+    → clears (verdictOf (inOrder tests Accepted)) ≡ false
+unfolding require
+refusals-leave [] l n = absurd (n refl)
+refusals-leave ((true, a) ∷ tests) l n = refusals-leave tests (and-split (not (clears (verdictOf a))) (leave tests) l .1) n
+refusals-leave ((false, a) ∷ tests) l n = not-true (clears (verdictOf a)) (and-split (not (clears (verdictOf a))) (leave tests) l .0)
+
+-- test k of the list
+abbrev pub testAt : List Test → ℕ → Bool
+testAt [] k = true
+testAt (t ∷ tests) zero = t .0
+testAt (t ∷ tests) (suc k) = testAt tests k
+
+pub passed-at : (tests : List Test) (rest : Answer) → ((k : ℕ) → testAt tests k ≡ true) → inOrder tests rest ≡ rest
+unfolding require
+passed-at [] rest p = refl
+passed-at (t ∷ tests) rest p =
+    ap (λ (b : Bool). require b (t .1) (inOrder tests rest)) (p 0) ∙ passed-at tests rest (λ k. p (suc k))
+
+-- a call that begins with such tests accepts only where all pass
+pub all-pass : (tests : List Test) (rest : Answer) → leave tests ≡ true → inOrder tests rest ≡ Accepted
+    → ((k : ℕ) → testAt tests k ≡ true) × (rest ≡ Accepted)
+unfolding require
+all-pass [] rest l e = (λ k. refl, e)
+all-pass ((true, a) ∷ tests) rest l e =
+    let others = all-pass tests rest (and-split (not (clears (verdictOf a))) (leave tests) l .1) e in (elim [ zero ↦ refl | suc k ↦ others .0 k ], others .1)
+all-pass ((false, a) ∷ tests) rest l e =
+    absurd (accepted-clears a (not-true (clears (verdictOf a)) (and-split (not (clears (verdictOf a))) (leave tests) l .0)) e)
 
 -- ---- a test of each number
 

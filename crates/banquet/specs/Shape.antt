@@ -16,6 +16,13 @@ messageLimit = 32768
 abbrev pub workLength : ℕ
 workLength = 65536
 
+-- "A seal is 19,776 bytes: salt, h1, h3 (32 each), then 41 frames": its head
+abbrev pub headSizes : List ℕ
+headSizes = 32 ∷ 32 ∷ 32 ∷ []
+
+abbrev pub headLength : ℕ
+headLength = total headSizes
+
 module _ (S : Shape) where
   open Shape S using (parties, depth, executions, wide, m1, m2, front)
 
@@ -61,17 +68,13 @@ module _ (S : Shape) where
   abbrev pub tapeSizes : List ℕ
   tapeSizes = 16 ∷ sboxes ∷ 2 * m1 * wide ∷ productPoints * wide ∷ []
 
-  -- "A seal is 19,776 bytes: salt, h1, h3 (32 each), then 41 frames"
-  abbrev pub headSizes : List ℕ
-  headSizes = 32 ∷ 32 ∷ 32 ∷ []
-
   -- "frames of 480: four sibling seeds from the top down (64), hidden commitment (32), key offset (16), inverse offsets (200), product offsets (84),
   -- c (4), a (40), b (40)"
   abbrev pub frameSizes : List ℕ
   frameSizes = depth * 16 ∷ 32 ∷ 16 ∷ sboxes ∷ productPoints * wide ∷ wide ∷ m1 * wide ∷ m1 * wide ∷ []
 
   abbrev pub signatureLength : ℕ
-  signatureLength = total headSizes + executions * total frameSizes
+  signatureLength = headLength + executions * total frameSizes
 
   -- "An opening is 2,554 bytes: salt 32, e 1, commitments 512, output shares 256, key offset 16, inverse offsets 200, r 40, product offsets 84, R 4,
   -- shares of c 64, of a 640, of b 640 (by party)": this far the transcript, which is "all bytes before the hidden party"

@@ -1,4 +1,10 @@
-// The types that contracts and definitions share; specs/ defines the scheme.
+// The types and limits that contracts and definitions share; specs/ defines the scheme.
+
+// "The message is over 32,768 bytes."
+pub const MESSAGE_LIMIT: usize = 32768;
+
+// "The work slice .. is under 65,536 bytes."
+pub const WORK_LENGTH: usize = 65536;
 
 // The answer of a call: accepted, or the refusal that applies first. specs/Answer.antt has the number and the place of each.
 pub enum Answer {

@@ -1,15 +1,16 @@
 // The calls for C and Rust: a slice is a pointer and a length, and an answer is one number. include/banquet.h says it to a C programmer.
 ghost use mathlib.Core.Path.{_≡_};
+ghost use mathlib.Core.List.{[], _∷_};
 ghost use Rattle.banquet.specs.Sets.{baseScheme};
 ghost use Rattle.banquet.specs.Calls.{makePublicKey, sign, verify, openExecution, verifyOpening};
 ghost use Rattle.banquet.specs.Card.{verifyCard};
-ghost use Rattle.verdict.specs.Code.{codeOf};
+ghost use Rattle.verdict.specs.Code.{told, toldWritten, toldChecked, toldMade};
 
 // Makes a public key.
 #[no_mangle]
 pub extern "C" fn banquet_public_key(key: &[u8], plaintext: &[u8], out: &mut [u8]) -> u32
-    ensures { λ r. ⌜ r ≡ codeOf (makePublicKey baseScheme (now (key .entry)) (now (plaintext .entry)) (now (out .entry)) .answer) ⌝ }
-    ensures { λ _. ⌜ now (out .exit) ≡ makePublicKey baseScheme (now (key .entry)) (now (plaintext .entry)) (now (out .entry)) .output ⌝ }
+    ensures { λ r. ⌜ told r (now (out .exit) ∷ [])
+        ≡ toldWritten (makePublicKey baseScheme (now (key .entry)) (now (plaintext .entry)) (now (out .entry))) ⌝ }
 {
     verdict::code(public_key::make_public_key(key, plaintext, out))
 }
@@ -25,9 +26,9 @@ pub extern "C" fn banquet_sign(
     out: &mut [u8],
     work: &mut [u8],
 ) -> u32
-    ensures { λ r. ⌜ r ≡ codeOf (sign baseScheme (now (key .entry)) (now (public .entry)) (now (message .entry)) (now (salt .entry)) (now (seeds .entry)) (now (out .entry)) (now (work .entry)) .answer) ⌝ }
-    ensures { λ _. ⌜ now (out .exit) ≡ sign baseScheme (now (key .entry)) (now (public .entry)) (now (message .entry)) (now (salt .entry)) (now (seeds .entry)) (now (out .entry)) (now (work .entry)) .output ⌝ }
-    ensures { λ _. ⌜ now (work .exit) ≡ sign baseScheme (now (key .entry)) (now (public .entry)) (now (message .entry)) (now (salt .entry)) (now (seeds .entry)) (now (out .entry)) (now (work .entry)) .work ⌝ }
+    ensures { λ r. ⌜ told r (now (out .exit) ∷ now (work .exit) ∷ [])
+        ≡ toldMade (sign baseScheme (now (key .entry)) (now (public .entry)) (now (message .entry)) (now (salt .entry)) (now (seeds .entry))
+        (now (out .entry)) (now (work .entry))) ⌝ }
 {
     verdict::code(signatures::sign(key, public, message, salt, seeds, out, work))
 }
@@ -40,8 +41,8 @@ pub extern "C" fn banquet_verify(
     signature: &[u8],
     work: &mut [u8],
 ) -> u32
-    ensures { λ r. ⌜ r ≡ codeOf (verify baseScheme (now (public .entry)) (now (message .entry)) (now (signature .entry)) (now (work .entry)) .answer) ⌝ }
-    ensures { λ _. ⌜ now (work .exit) ≡ verify baseScheme (now (public .entry)) (now (message .entry)) (now (signature .entry)) (now (work .entry)) .work ⌝ }
+    ensures { λ r. ⌜ told r (now (work .exit) ∷ [])
+        ≡ toldChecked (verify baseScheme (now (public .entry)) (now (message .entry)) (now (signature .entry)) (now (work .entry))) ⌝ }
 {
     verdict::code(signatures::verify(public, message, signature, work))
 }
@@ -60,9 +61,9 @@ pub extern "C" fn banquet_open(
     out: &mut [u8],
     work: &mut [u8],
 ) -> u32
-    ensures { λ r. ⌜ r ≡ codeOf (openExecution baseScheme (now (key .entry)) (now (public .entry)) (now (salt .entry)) (now (seed .entry)) (now (first .entry)) execution second hidden (now (out .entry)) (now (work .entry)) .answer) ⌝ }
-    ensures { λ _. ⌜ now (out .exit) ≡ openExecution baseScheme (now (key .entry)) (now (public .entry)) (now (salt .entry)) (now (seed .entry)) (now (first .entry)) execution second hidden (now (out .entry)) (now (work .entry)) .output ⌝ }
-    ensures { λ _. ⌜ now (work .exit) ≡ openExecution baseScheme (now (key .entry)) (now (public .entry)) (now (salt .entry)) (now (seed .entry)) (now (first .entry)) execution second hidden (now (out .entry)) (now (work .entry)) .work ⌝ }
+    ensures { λ r. ⌜ told r (now (out .exit) ∷ now (work .exit) ∷ [])
+        ≡ toldMade (openExecution baseScheme (now (key .entry)) (now (public .entry)) (now (salt .entry)) (now (seed .entry)) (now (first .entry))
+        execution second hidden (now (out .entry)) (now (work .entry))) ⌝ }
 {
     verdict::code(openings::open(
         key,
@@ -81,8 +82,8 @@ pub extern "C" fn banquet_open(
 // Checks an opening.
 #[no_mangle]
 pub extern "C" fn banquet_verify_opening(public: &[u8], opening: &[u8], work: &mut [u8]) -> u32
-    ensures { λ r. ⌜ r ≡ codeOf (verifyOpening baseScheme (now (public .entry)) (now (opening .entry)) (now (work .entry)) .answer) ⌝ }
-    ensures { λ _. ⌜ now (work .exit) ≡ verifyOpening baseScheme (now (public .entry)) (now (opening .entry)) (now (work .entry)) .work ⌝ }
+    ensures { λ r. ⌜ told r (now (work .exit) ∷ [])
+        ≡ toldChecked (verifyOpening baseScheme (now (public .entry)) (now (opening .entry)) (now (work .entry))) ⌝ }
 {
     verdict::code(openings::verify_opening(public, opening, work))
 }
@@ -90,8 +91,7 @@ pub extern "C" fn banquet_verify_opening(public: &[u8], opening: &[u8], work: &m
 // Checks a card given as text.
 #[no_mangle]
 pub extern "C" fn banquet_verify_card(text: &[u8], work: &mut [u8]) -> u32
-    ensures { λ r. ⌜ r ≡ codeOf (verifyCard baseScheme (now (text .entry)) (now (work .entry)) .answer) ⌝ }
-    ensures { λ _. ⌜ now (work .exit) ≡ verifyCard baseScheme (now (text .entry)) (now (work .entry)) .work ⌝ }
+    ensures { λ r. ⌜ told r (now (work .exit) ∷ []) ≡ toldChecked (verifyCard baseScheme (now (text .entry)) (now (work .entry))) ⌝ }
 {
     verdict::code(card_text::verify_card(text, work))
 }

@@ -1,103 +1,118 @@
--- What is known of a card, of document 01's set, when its form has been checked and its bytes have been read. Assumes nothing.
-use mathlib.Core.Path.{_≡_, refl, sym, ap, subst, _∙_}
+-- What is known of a card, of any scheme, when its form has been checked and its bytes have been read. Assumes nothing.
+use mathlib.Core.Path.{_≡_, refl, sym, ap, ap₂, subst, _∙_}
 use mathlib.Core.List.{List, _∷_, _++_, append-assoc}
-use Prim.Native.Nat.{ℕ, _+_, _-_, _*_, _≤_}
+use Prim.Native.Nat.{ℕ, suc, _+_, _-_, _*_, _≤_}
 use native.Mathlib.Omega.{arith}
-use lib.ListN.{length, take, drop, replicate, length-append}
+use lib.Dec.{lit<}
+use lib.ListN.{length, take, drop, replicate, length-append, length-replicate}
 use lib.Seq.{take-at}
+use Rattle.slices.specs.Layout.{total}
+use Rattle.banquet.specs.declared.Shape.{Shape}
 use Rattle.banquet.specs.declared.Answer.{Answer}
 use Rattle.banquet.specs.declared.Answer.the-variants.{Accepted}
-use Rattle.banquet.specs.Shape.{messageLimit}
+use Rattle.banquet.specs.Shape.{messageLimit, publicKeyLength, headLength, frameSizes, signatureLength}
+use Rattle.banquet.specs.Scheme.{Scheme}
 use Rattle.banquet.specs.Answer.{workAfter, outputAfter}
-use Rattle.banquet.specs.Calls.{verifyAnswer}
-use Rattle.banquet.specs.Card.{decoded, lineOf, afterLine, decodedLine, decodedLines, checkLines, cardSizes, verifyCardAnswer}
-use Rattle.banquet.specs.Sets.{baseScheme}
+use Rattle.banquet.specs.Calls.{checked, verifyAnswer}
+use Rattle.banquet.specs.Card.{decoded, lineOf, afterLine, decodedLine, decodedLines, checkLines, cardSizes, verifyCard, verifyCardAnswer}
 use Rattle.verdict.specs.Refusal.{Refusal}
 use Rattle.text_lines.specs.Form.{broken, first-line, other-lines, in-form, form-length, form-exact}
-use Rattle.text_lines.specs.Parts.{middle}
+use Rattle.text_lines.specs.Parts.{middle, total-replicate}
+use Rattle.card_sizes.specs.Lines.{linesOf, cardBytes, sizes-many}
 
-abbrev pub form : List ℕ → Answer
-form text = checkLines 2 (cardSizes baseScheme messageLimit) 1 text Accepted
+module _ (𝓢 : Scheme) where
+  open Shape (𝓢 .shape) using (executions)
 
--- ---- a text that breaks its form
+  abbrev pub form : List ℕ → Answer
+  form text = checkLines 2 (cardSizes (𝓢 .shape) messageLimit) 1 text Accepted
 
-module _ (text work : List ℕ) {a : Answer} (e : a ≡ form text) (h : Refusal a) where
-  pub broken-answer : a ≡ verifyCardAnswer baseScheme text work
+  -- ---- a text that breaks its form
+
+  pub card-broken : (text work : List ℕ) {a : Answer} → a ≡ form text → Refusal a → checked a work ≡ verifyCard 𝓢 text work
   unfolding verifyCardAnswer
-  broken-answer = e ∙ sym (broken (cardSizes baseScheme messageLimit) 2 1 text (subst Refusal e h) .answer _)
+  card-broken text work e h =
+      let b = broken (cardSizes (𝓢 .shape) messageLimit) 2 1 text (subst Refusal e h) in
+      let answer : verifyCardAnswer 𝓢 text work ≡ form text = b .answer _ in
+      ap₂ checked (e ∙ sym answer) (sym (b .work work) ∙ ap (λ (x : Answer). workAfter x work) (sym answer))
 
-  pub broken-work : work ≡ workAfter (verifyCardAnswer baseScheme text work) work
-  broken-work =
-      sym (broken (cardSizes baseScheme messageLimit) 2 1 text (subst Refusal e h) .work work)
-      ∙ ap (λ (x : Answer). workAfter x work) (sym e ∙ broken-answer)
+  -- ---- a text in form
 
--- ---- a text in form
+  module _ (text : List ℕ) (h : form text ≡ Accepted) where
+    abbrev rest : List ℕ
+    rest = afterLine text
 
-module _ (text : List ℕ) (h : form text ≡ Accepted) where
-  abbrev rest : List ℕ
-  rest = afterLine text
+    abbrev key : List ℕ
+    key = decoded (lineOf text)
 
-  abbrev signature : List ℕ
-  signature = decodedLines 42 (afterLine rest)
+    abbrev message : List ℕ
+    message = decoded (lineOf rest)
 
-  abbrev sizes : List ℕ
-  sizes = 96 ∷ replicate 41 480
+    abbrev signature : List ℕ
+    signature = decodedLines (1 + executions) (afterLine rest)
 
-  others : checkLines 2 (messageLimit ∷ sizes) 2 rest Accepted ≡ Accepted
-  others = other-lines 2 32 (messageLimit ∷ sizes) 1 text h
+    abbrev sizes : List ℕ
+    sizes = headLength ∷ replicate executions (total (frameSizes (𝓢 .shape)))
 
-  pub key-long : length (decoded (lineOf text)) ≡ 32
-  key-long = first-line 2 32 (messageLimit ∷ sizes) 1 text h .exact refl
+    others : checkLines 2 (messageLimit ∷ sizes) 2 rest Accepted ≡ Accepted
+    others = other-lines 2 (publicKeyLength (𝓢 .shape)) (messageLimit ∷ sizes) 1 text h
 
-  pub message-long : length (decoded (lineOf rest)) ≤ 32768
-  message-long = first-line 2 messageLimit sizes 2 rest others .most
+    key-long : length key ≡ publicKeyLength (𝓢 .shape)
+    key-long = first-line 2 (publicKeyLength (𝓢 .shape)) (messageLimit ∷ sizes) 1 text h .exact refl
 
-  pub signature-long : length signature ≡ 19776
-  signature-long = form-exact sizes 2 3 (afterLine rest) (omega arith) (other-lines 2 messageLimit sizes 2 rest others)
+    pub message-long : length message ≤ messageLimit
+    message-long = first-line 2 messageLimit sizes 2 rest others .most
 
-  whole : decodedLines 44 text ≡ decoded (lineOf text) ++ (decoded (lineOf rest) ++ signature)
-  unfolding decodedLines
-  whole = refl
+    signature-long : length signature ≡ signatureLength (𝓢 .shape)
+    signature-long =
+        let frame = total (frameSizes (𝓢 .shape)) in
+        let lines : 1 + executions ≡ length sizes = omega (arith, length-replicate {A = ℕ} executions frame) in
+        ap (λ (n : ℕ). length (decodedLines n (afterLine rest))) lines
+        ∙ form-exact sizes 2 3 (afterLine rest) (lit< tt) (other-lines 2 messageLimit sizes 2 rest others)
+        ∙ ap (headLength +_) (total-replicate executions frame)
 
-  -- where the signature begins, and where it ends
-  pub text-long : length text ≡ 2 * (32 + length (decoded (lineOf rest)) + 19776) + 44
-  text-long =
-      form-length (cardSizes baseScheme messageLimit) 2 1 text h
-      ∙ omega (
-        arith,
-        ap length whole,
-        length-append (decoded (lineOf text)) (decoded (lineOf rest) ++ signature),
-        length-append (decoded (lineOf rest)) signature,
-        key-long,
-        signature-long,
-      )
+    whole : decodedLines (linesOf (𝓢 .shape)) text ≡ key ++ (message ++ signature)
+    unfolding decodedLines
+    whole =
+        let two : linesOf (𝓢 .shape) ≡ suc (suc (1 + executions)) = omega arith in
+        ap (λ (n : ℕ). decodedLines n text) two
 
-  -- the answer is that of `verify`
-  pub form-answer : (work : List ℕ)
-      → verifyCardAnswer baseScheme text work ≡ verifyAnswer baseScheme (decoded (lineOf text)) (decoded (lineOf rest)) signature work
-  unfolding verifyCardAnswer decodedLine
-  form-answer work = in-form (cardSizes baseScheme messageLimit) 2 1 text h _
+    -- two digits a byte, and an end for each line
+    pub text-long : length text ≡ 2 * cardBytes (𝓢 .shape) (length message) + linesOf (𝓢 .shape)
+    text-long =
+        form-length (cardSizes (𝓢 .shape) messageLimit) 2 1 text h
+        ∙ omega (
+          arith,
+          sizes-many (𝓢 .shape) messageLimit,
+          ap (λ (n : ℕ). length (decodedLines n text)) (sizes-many (𝓢 .shape) messageLimit),
+          ap length whole,
+          length-append key (message ++ signature),
+          length-append message signature,
+          key-long,
+          signature-long,
+        )
 
-  -- the parts of what was read
-  module _ (bytes d : List ℕ) (e : bytes ≡ outputAfter Accepted (decodedLines 44 text) d) (start end : ℕ)
-      (at : start ≡ 32 + length (decoded (lineOf rest))) (to : end ≡ start + 19776) where
-    left : List ℕ
-    left = drop (length (decodedLines 44 text)) d
+    -- the answer is that of `verify`
+    pub form-answer : (work : List ℕ) → verifyCardAnswer 𝓢 text work ≡ verifyAnswer 𝓢 key message signature work
+    unfolding verifyCardAnswer decodedLine
+    form-answer work = in-form (cardSizes (𝓢 .shape) messageLimit) 2 1 text h _
 
-    split : bytes ≡ decoded (lineOf text) ++ (decoded (lineOf rest) ++ (signature ++ left))
-    unfolding outputAfter left
-    split =
-        e ∙ ap (_++ left) whole ∙ append-assoc (decoded (lineOf text)) (decoded (lineOf rest) ++ signature) left
-        ∙ ap (decoded (lineOf text) ++_) (append-assoc (decoded (lineOf rest)) signature left)
+    -- the parts of what was read: the message begins at a, the signature at b, and it ends at c
+    module _ (bytes d : List ℕ) (e : bytes ≡ outputAfter Accepted (decodedLines (linesOf (𝓢 .shape)) text) d) {a b c : ℕ}
+        (first : a ≡ publicKeyLength (𝓢 .shape)) (second : b ≡ a + length message) (third : c ≡ b + signatureLength (𝓢 .shape)) where
+      left : List ℕ
+      left = drop (length (decodedLines (linesOf (𝓢 .shape)) text)) d
 
-    pub key-part : take 32 bytes ≡ decoded (lineOf text)
-    key-part = ap (take 32) split ∙ take-at (decoded (lineOf text)) (decoded (lineOf rest) ++ (signature ++ left)) 32 key-long
+      split : bytes ≡ key ++ (message ++ (signature ++ left))
+      unfolding outputAfter left
+      split = e ∙ ap (_++ left) whole ∙ append-assoc key (message ++ signature) left ∙ ap (key ++_) (append-assoc message signature left)
 
-    pub message-part : take (start - 32) (drop 32 bytes) ≡ decoded (lineOf rest)
-    message-part = middle 32 start (decoded (lineOf text)) (decoded (lineOf rest)) (signature ++ left) split key-long (sym at)
+      pub key-part : take a bytes ≡ key
+      key-part = ap (take a) split ∙ take-at key (message ++ (signature ++ left)) a (key-long ∙ sym first)
 
-    pub signature-part : take (end - start) (drop start bytes) ≡ signature
-    signature-part =
-        middle start end (decoded (lineOf text) ++ decoded (lineOf rest)) signature left
-        (split ∙ sym (append-assoc (decoded (lineOf text)) (decoded (lineOf rest)) (signature ++ left)))
-        (omega (arith, length-append (decoded (lineOf text)) (decoded (lineOf rest)), key-long)) (omega (arith, signature-long))
+      pub message-part : take (b - a) (drop a bytes) ≡ message
+      message-part = middle a b key message (signature ++ left) split (key-long ∙ sym first) (sym second)
+
+      pub signature-part : take (c - b) (drop b bytes) ≡ signature
+      signature-part =
+          middle b c (key ++ message) signature left (split ∙ sym (append-assoc key message (signature ++ left)))
+          (length-append key message ∙ omega (arith, key-long, first, second)) (omega (arith, signature-long, third))

@@ -3,7 +3,6 @@ use mathlib.Core.Path.{_≡_, sym, ap, ap₂, _∙_}
 use mathlib.Core.Bool.{Bool, true, false}
 use mathlib.Core.List.{List, _∷_, _++_}
 use Prim.Native.Nat.{ℕ, zero, suc, _+_, _*_, _<_, _≤_}
-use native.Mathlib.Nat.{zero-mul, suc-mul}
 use native.Mathlib.Omega.{arith}
 use lib.ListN.{length, take, replicate, length-replicate}
 use Rattle.slices.specs.Lists.{choose}
@@ -11,7 +10,7 @@ use Rattle.slices.specs.Layout.{total}
 use Rattle.slices.specs.Bytes.{Bytes, Sized}
 use Rattle.banquet.specs.declared.Shape.{Shape}
 use Rattle.banquet.specs.declared.Answer.{Answer}
-use Rattle.banquet.specs.Shape.{messageLimit, publicKeyLength, headSizes, frameSizes, signatureLength}
+use Rattle.banquet.specs.Shape.{messageLimit, publicKeyLength, headLength, frameSizes, signatureLength}
 use Rattle.banquet.specs.Scheme.{Scheme}
 use Rattle.banquet.specs.Calls.{verifyAnswer}
 use Rattle.banquet.specs.Card.{
@@ -27,23 +26,24 @@ use Rattle.banquet.specs.Card.{
   verifyCardAnswer,
   cardText,
 }
+use Rattle.text_lines.specs.Parts.{total-replicate}
 use Rattle.text_lines.specs.Written.{line-read, after-written, check-line, lines-check, lines-read, lines-split}
 use Rattle.text_lines.specs.Cut.{cut-answer}
 
-total-replicate : (n size : ℕ) → total (replicate n size) ≡ n * size
-total-replicate zero size = sym (zero-mul size)
-total-replicate (suc n) size = ap (size +_) (total-replicate n size) ∙ omega (arith, suc-mul n size)
+-- the bytes of a card's text with m bytes of message: two digits a byte, and an end a line
+abbrev pub cardLength : Shape → ℕ → ℕ
+cardLength S m = 2 * total (cardSizes S m) + length (cardSizes S m)
 
 module _ (𝓢 : Scheme) where
   open Shape (𝓢 .shape) using (executions)
 
   -- the lines of the signature
   abbrev sizes : List ℕ
-  sizes = total (headSizes (𝓢 .shape)) ∷ replicate executions (total (frameSizes (𝓢 .shape)))
+  sizes = headLength ∷ replicate executions (total (frameSizes (𝓢 .shape)))
 
   -- What is written as a card is read as what it was written from.
-  module _ (publicKey message s : List ℕ) (p : Sized (publicKeyLength (𝓢 .shape)) publicKey) (m : Bytes message) (short : length message ≤ messageLimit)
-      (h : Sized (signatureLength (𝓢 .shape)) s) where
+  module _ (publicKey message s : List ℕ) (p : Sized (publicKeyLength (𝓢 .shape)) publicKey) (m : Bytes message)
+      (short : length message ≤ messageLimit) (h : Sized (signatureLength (𝓢 .shape)) s) where
     unfoldable third : List ℕ
     third = encodedLines sizes s
 
@@ -57,10 +57,11 @@ module _ (𝓢 : Scheme) where
     unfolding cardText third second text
     card-is =
         ap (λ (n : ℕ). encodedLines (n ∷ length message ∷ sizes) (publicKey ++ (message ++ s))) (sym (p .size))
-        ∙ lines-split publicKey (message ++ s) (length message ∷ sizes) ∙ ap (λ (t : List ℕ). encoded publicKey ++ (0x0a ∷ t)) (lines-split message s sizes)
+        ∙ lines-split publicKey (message ++ s) (length message ∷ sizes)
+        ∙ ap (λ (t : List ℕ). encoded publicKey ++ (0x0a ∷ t)) (lines-split message s sizes)
 
     long : length s ≡ total sizes
-    long = h .size ∙ sym (ap (total (headSizes (𝓢 .shape)) +_) (total-replicate executions (total (frameSizes (𝓢 .shape)))))
+    long = h .size ∙ sym (ap (headLength +_) (total-replicate executions (total (frameSizes (𝓢 .shape)))))
 
     lines : length sizes ≡ 1 + executions
     lines = ap suc (length-replicate executions (total (frameSizes (𝓢 .shape)))) ∙ omega arith
@@ -85,7 +86,7 @@ module _ (𝓢 : Scheme) where
     unfolding third
     third-read = ap₂ decodedLines (sym lines) (ap afterLine after-first ∙ after-second) ∙ lines-read sizes s (h .bytes) long
 
-    in-form : (rest : Answer) → checkLines 2 (cardSizes 𝓢 messageLimit) 1 text rest ≡ rest
+    in-form : (rest : Answer) → checkLines 2 (cardSizes (𝓢 .shape) messageLimit) 1 text rest ≡ rest
     unfolding text second third
     in-form rest =
         check-line 2 (publicKeyLength (𝓢 .shape)) (messageLimit ∷ sizes) 1 publicKey second rest (p .bytes) (omega (arith, p .size)) (λ _. p .size)
@@ -109,9 +110,9 @@ module _ (𝓢 : Scheme) where
     card-read work = ap (λ (t : List ℕ). verifyCardAnswer 𝓢 t work) card-is ∙ text-read work
 
   -- Of a text longer than every card the answer is that of its front.
-  pub card-cut : (k : ℕ) (text work : List ℕ) → 2 * total (cardSizes 𝓢 messageLimit) + length (cardSizes 𝓢 messageLimit) < k
+  pub card-cut : (k : ℕ) (text work : List ℕ) → cardLength (𝓢 .shape) messageLimit < k
       → verifyCardAnswer 𝓢 (take k text) work ≡ verifyCardAnswer 𝓢 text work
   unfolding verifyCardAnswer
   card-cut k text work h =
-      cut-answer (cardSizes 𝓢 messageLimit) 2 k text
+      cut-answer (cardSizes (𝓢 .shape) messageLimit) 2 k text
       (λ t. verifyAnswer 𝓢 (decodedLine 1 t) (decodedLine 2 t) (decodedLines (1 + executions) (afterLine (afterLine t))) work) h

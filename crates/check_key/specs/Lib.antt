@@ -1,2 +1,2 @@
--- What a key that is refused leaves.
-pub mod Refused
+-- Calls whose last tests are those of the key.
+pub mod Answers

@@ -45,7 +45,7 @@ module _ {S : Shape} {publicKey t : List ℕ} {e second : ℕ} (g : Given S publ
   module _ {found : ℕ}
       (f : found ≡ lowest parties 0
       (λ i. eqb i hidden || same (commitment (schemeOf S) (saltOf (schemeOf S) t) e i (row 16 i seeds)) (commitmentOf (schemeOf S) t i))) where
-    tested : found ≡ lowest parties 0 (λ i. eqb i hidden || commitmentHolds (schemeOf S) publicKey t i (shown i))
+    tested : found ≡ lowest parties 0 (λ i. eqb i hidden || commitmentHolds (schemeOf S) t i (shown i))
     unfolding commitmentHolds
     tested =
         f ∙ lowest-cong parties (λ i l. ap₂

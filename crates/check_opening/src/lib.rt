@@ -5,11 +5,10 @@ ghost use mathlib.Core.Path.{_≡_};
 ghost use Prim.Native.Nat.{_*_, _≤_};
 ghost use lib.ListN.{length};
 ghost use Rattle.slices.specs.Layout.{total};
-ghost use Rattle.banquet.specs.Shape.{transcriptSizes};
+ghost use Rattle.banquet.specs.Shape.{workLength, publicKeyLength, transcriptSizes};
 ghost use Rattle.banquet.specs.Sets.{schemeOf};
-ghost use Rattle.banquet.specs.Answer.{workAfter};
 ghost use Rattle.banquet.specs.Opening.{secondOf, shownSeed, checkParties, checkOpening};
-ghost use Rattle.banquet.specs.Calls.{verifyOpening};
+ghost use Rattle.banquet.specs.Calls.{checked, checkedAfter, verifyOpening};
 ghost use Rattle.sets.specs.Valid.{Valid};
 ghost use Rattle.scratch.specs.Scratch.{Scratch};
 ghost use Rattle.share_check.specs.Steps.{Given};
@@ -26,7 +25,7 @@ fn check_parties(
     work: &mut [u8],
 ) -> Answer
     requires { ⌜ Given shape (now public) (now transcript) e second × (length (now siblings) ≡ shape .depth * 16)
-        × (65536 ≤ length (now work)) ⌝ }
+        × (workLength ≤ length (now work)) ⌝ }
     ensures { λ r. ⌜ r
         ≡ checkParties (schemeOf shape) (now (public .entry)) (now (transcript .entry)) hidden
         (shownSeed (schemeOf shape) (now (transcript .entry)) hidden (now (siblings .entry))) ⌝ }
@@ -88,23 +87,18 @@ fn check_ranges(
     siblings: &[u8],
     work: &mut [u8],
 ) -> Answer
-    requires { ⌜ Valid shape × (length (now public) ≡ 32) × (length (now transcript) ≡ total (transcriptSizes shape))
-        × (length (now siblings) ≡ shape .depth * 16) × (65536 ≤ length (now work)) ⌝ }
-    ensures { λ r. ⌜ r ≡ checkOpening (schemeOf shape) (now (public .entry)) (now (transcript .entry)) hidden (now (siblings .entry)) ⌝ }
-    ensures { λ _. ⌜ now (work .exit)
-        ≡ workAfter (checkOpening (schemeOf shape) (now (public .entry)) (now (transcript .entry)) hidden (now (siblings .entry)))
+    requires { ⌜ Valid shape × (length (now public) ≡ publicKeyLength shape) × (length (now transcript) ≡ total (transcriptSizes shape))
+        × (length (now siblings) ≡ shape .depth * 16) × (workLength ≤ length (now work)) ⌝ }
+    ensures { λ r. ⌜ checked r (now (work .exit))
+        ≡ checkedAfter (checkOpening (schemeOf shape) (now (public .entry)) (now (transcript .entry)) hidden (now (siblings .entry)))
         (now (work .entry)) ⌝ }
 {
     let e = transcript[32];
-    if (e as usize) >= shape.executions {
-        return Answer::ExecutionRange;
-    }
-    if hidden >= shape.parties {
-        return Answer::HiddenPartyRange;
-    }
     let second = second_of(shape, transcript);
-    if second < (shape.m2 as u64) {
-        return Answer::SecondChallengeRange;
+    let refusal = lengths::ranges(shape, e as usize, hidden, second);
+    match refusal {
+        Answer::Accepted => {}
+        _ => return refusal,
     }
     let answer = check_parties(shape, public, transcript, e, second, hidden, siblings, work);
     scratch::clear(work);
@@ -114,21 +108,16 @@ fn check_ranges(
 // The call, which refuses by lengths first.
 pub fn check(shape: Shape, public: &[u8], opening: &[u8], work: &mut [u8]) -> Answer
     requires { ⌜ Valid shape ⌝ }
-    ensures { λ r. ⌜ r ≡ verifyOpening (schemeOf shape) (now (public .entry)) (now (opening .entry)) (now (work .entry)) .answer ⌝ }
-    ensures { λ _. ⌜ now (work .exit)
-        ≡ verifyOpening (schemeOf shape) (now (public .entry)) (now (opening .entry)) (now (work .entry)) .work ⌝ }
+    ensures { λ r. ⌜ checked r (now (work .exit))
+        ≡ verifyOpening (schemeOf shape) (now (public .entry)) (now (opening .entry)) (now (work .entry)) ⌝ }
 {
-    if public.len() != 32 {
-        return Answer::PublicKeyLength;
+    let refusal = lengths::verify_opening(shape, public.len(), opening.len(), work.len());
+    match refusal {
+        Answer::Accepted => {}
+        _ => return refusal,
     }
     let end = opening_sizes::transcript_length(shape);
-    let whole = opening_sizes::opening_length(shape);
-    if opening.len() != whole {
-        return Answer::FileLength;
-    }
-    if work.len() < 65536 {
-        return Answer::WorkLength;
-    }
+    let whole = opening.len();
     let hidden = opening[end] as usize;
     let from = end + 1;
     check_ranges(

@@ -21,14 +21,14 @@ use Rattle.banquet.specs.declared.Shape.{Shape}
 use Rattle.banquet.specs.Shape.{firstChallengeLength}
 use Rattle.banquet.specs.Sets.{schemeOf}
 use Rattle.banquet.specs.Hash.{evaluationPoint, partyOf, firstChallenge, secondChallenge, hiddenParty}
-use Rattle.banquet.specs.Signature.{headPart, frameOf, frameH1Part, frameH3Part}
+use Rattle.banquet.specs.Signature.{signatureSalt, signatureH1, signatureH3, frameOf, frameH1Part, frameH3Part}
 use Rattle.sets.specs.Bounds.{firsts-most}
 use Rattle.challenges.specs.Challenges.{second-wide, hidden-lt}
 use Rattle.frames.specs.Frames.{sized-frame}
 use Rattle.frame_hashes.specs.Given.{Given}
 use Rattle.frame_hashes.specs.Frame.{seedShown, shownH1, shownH3}
 use Rattle.forms.specs.Stated.{sized-row}
-use Rattle.verify_answers.specs.Head.{head-sizes}
+use Rattle.heads.specs.Heads.{salt-long}
 use Rattle.check_signature.specs.Steps.{Files, Drawn, h2Of, firstPart, thirdPart}
 
 -- u and v are x and y with the parts of e executions absorbed
@@ -82,13 +82,13 @@ module _ {S : Shape} {publicKey s firsts seconds thirds : List ℕ} (f : Files S
   n = firstChallengeLength S
 
   firsts-sized : Sized (executions * n) (take (executions * n) firsts)
-  firsts-sized = drawn (6 ∷ headPart (schemeOf S) 1 s) (d .firsts-are)
+  firsts-sized = drawn (6 ∷ signatureH1 s) (d .firsts-are)
 
   seconds-sized : Sized (executions * wide) (take (executions * wide) seconds)
   seconds-sized = drawn (7 ∷ h2Of S s) (d .seconds-are)
 
   thirds-sized : Sized (executions * 4) (take (executions * 4) thirds)
-  thirds-sized = drawn (8 ∷ headPart (schemeOf S) 2 s) (d .thirds-are)
+  thirds-sized = drawn (8 ∷ signatureH3 s) (d .thirds-are)
 
   module _ {e : ℕ} (l : e < executions) where
     -- they are there, and few
@@ -106,7 +106,7 @@ module _ {S : Shape} {publicKey s firsts seconds thirds : List ℕ} (f : Files S
 
     -- ---- what the execution is given
 
-    module _ {salt first frame : List ℕ} {hidden second : ℕ} (salt-is : salt ≡ headPart (schemeOf S) 0 s)
+    module _ {salt first frame : List ℕ} {hidden second : ℕ} (salt-is : salt ≡ signatureSalt s)
         (hidden-is : hidden ≡ partyOf parties (numberAt 4 e thirds)) (first-is : first ≡ row n e firsts)
         (second-is : second ≡ evaluationPoint (S .m2) (numberAt wide e seconds)) (frame-is : frame ≡ frameOf (schemeOf S) s e) where
       first-taken : first ≡ row n e (take (executions * n) firsts)
@@ -122,18 +122,18 @@ module _ {S : Shape} {publicKey s firsts seconds thirds : List ℕ} (f : Files S
       given = record {
         valid = f .valid;
         public-sized = f .public-sized;
-        salt-size = ap length salt-is ∙ head-sizes S s (f .file-sized .size) .0;
+        salt-size = ap length salt-is ∙ salt-long s (omega (arith, f .file-sized .size));
         hidden-below = rw hidden-is (hidden-lt (f .valid) (numberAt 4 e thirds));
         first-sized = rw first-taken (sized-row n executions firsts-sized e l);
         second-wide = rw second-taken (second-wide (f .valid) e (seconds-sized .bytes));
         frame-sized = rw frame-is (sized-frame S s (f .file-sized) l);
       }
 
-      hidden-right : hidden ≡ hiddenParty (schemeOf S) (headPart (schemeOf S) 2 s) e
+      hidden-right : hidden ≡ hiddenParty (schemeOf S) (signatureH3 s) e
       unfolding hiddenParty
       hidden-right = hidden-taken ∙ ap (λ t. partyOf parties (numberAt 4 e t)) (d .thirds-are)
 
-      first-right : first ≡ firstChallenge (schemeOf S) (headPart (schemeOf S) 1 s) e
+      first-right : first ≡ firstChallenge (schemeOf S) (signatureH1 s) e
       unfolding firstChallenge
       first-right = first-taken ∙ ap (row n e) (d .firsts-are)
 

@@ -2,3 +2,4 @@
 mod Execution
 mod Parts
 mod Hashes
+pub mod Answers

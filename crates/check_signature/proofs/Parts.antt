@@ -10,7 +10,8 @@ use Rattle.banquet.specs.Shape.{frameSizes}
 use Rattle.banquet.specs.Sets.{schemeOf}
 use Rattle.banquet.specs.Execution.{outputShare}
 use Rattle.banquet.specs.Signature.{
-  headPart,
+  signatureSalt,
+  signatureH3,
   frameOf,
   framePart,
   h1Part,
@@ -33,10 +34,10 @@ module _ {S : Shape} {publicKey s : List ℕ} (f : Files S publicKey s) {e : ℕ
   open Shape S using (parties, wide, m1, front)
 
   abbrev salt : List ℕ
-  salt = headPart (schemeOf S) 0 s
+  salt = signatureSalt s
 
   abbrev h3 : List ℕ
-  h3 = headPart (schemeOf S) 2 s
+  h3 = signatureH3 s
 
   abbrev frame : List ℕ
   frame = frameOf (schemeOf S) s e
@@ -47,18 +48,18 @@ module _ {S : Shape} {publicKey s : List ℕ} (f : Files S publicKey s) {e : ℕ
   part-bytes : (k : ℕ) → Bytes (framePart (schemeOf S) frame k)
   part-bytes k = sized-field (frameSizes S) k frame-sized .bytes
 
-  fits : Fits (schemeOf S) (laws (f .valid)) (frameCommitted (schemeOf S) publicKey salt h3 e frame)
+  fits : Fits (schemeOf S) (laws (f .valid)) (frameCommitted (schemeOf S) publicKey frame)
   fits = record {
     fits-front = sized-front (schemeOf S) (laws (f .valid)) (f .public-sized);
     fits-key = sized-field (frameSizes S) 2 frame-sized;
     fits-inverses = sized-field (frameSizes S) 3 frame-sized;
   }
 
-  share-bytes : (i : ℕ) → Bytes (outputShare (schemeOf S) (frameCommitted (schemeOf S) publicKey salt h3 e frame) i
-      (frameTape (schemeOf S) publicKey salt h3 e frame i))
+  share-bytes : (i : ℕ) → Bytes (outputShare (schemeOf S) (frameCommitted (schemeOf S) publicKey frame) i
+      (frameTape (schemeOf S) salt h3 e frame i))
   share-bytes i =
       sized-outputShare (schemeOf S) (laws (f .valid)) _ fits i
-      (hashed-tape (schemeOf S) (laws (f .valid)) salt e i (frameSeed (schemeOf S) publicKey salt h3 e frame i)) .bytes
+      (hashed-tape (schemeOf S) (laws (f .valid)) salt e i (frameSeed (schemeOf S) salt h3 e frame i)) .bytes
 
   pub first-bytes : Bytes (firstPart S s publicKey e)
   unfolding frameH1Part h1Part completedOutput

@@ -7,9 +7,22 @@ use Rattle.slices.specs.Bytes.{Sized}
 use Rattle.shake.specs.Shake128.{shake128}
 use Rattle.banquet.specs.declared.Shape.{Shape}
 use Rattle.banquet.specs.Shape.{publicKeyLength, firstChallengeLength, signatureLength}
+use Rattle.banquet.specs.declared.Answer.{Answer}
+use Rattle.banquet.specs.declared.Answer.the-variants.{Accepted}
 use Rattle.banquet.specs.Sets.{schemeOf}
+use Rattle.banquet.specs.Answer.{inOrder}
 use Rattle.banquet.specs.Hash.{secondHash}
-use Rattle.banquet.specs.Signature.{headPart, frameOf, framePart, frameH1Part, frameH3Part}
+use Rattle.banquet.specs.Signature.{
+  signatureSalt,
+  signatureH1,
+  signatureH3,
+  frameOf,
+  framePart,
+  frameH1Part,
+  frameH3Part,
+  hashTests,
+  checkSignature,
+}
 use Rattle.sets.specs.Valid.{Valid}
 
 -- a public key and a signature of the right lengths
@@ -19,29 +32,29 @@ pub record Files (S : Shape) (publicKey s : List ℕ) : Type 0 where
   pub file-sized : Sized (signatureLength S) s
 
 module _ (S : Shape) (s : List ℕ) where
-  abbrev salt : List ℕ
-  salt = headPart (schemeOf S) 0 s
-
-  abbrev h1 : List ℕ
-  h1 = headPart (schemeOf S) 1 s
-
-  abbrev h3 : List ℕ
-  h3 = headPart (schemeOf S) 2 s
-
   -- the signature's own h2: "2: h1, all product offsets"
   abbrev pub h2Of : List ℕ
-  h2Of = secondHash (schemeOf S) h1 (λ e. framePart (schemeOf S) (frameOf (schemeOf S) s e) 4)
+  h2Of = secondHash (schemeOf S) (signatureH1 s) (λ e. framePart (schemeOf S) (frameOf (schemeOf S) s e) 4)
 
   -- "Every number drawn from 6, 7 or 8 ..": the bytes that are drawn for all executions, at the front of what is given
   pub record Drawn (firsts seconds thirds : List ℕ) : Type 0 where
-    pub firsts-are : take (S .executions * firstChallengeLength S) firsts ≡ shake128 (6 ∷ h1) (S .executions * firstChallengeLength S)
+    pub firsts-are : take (S .executions * firstChallengeLength S) firsts ≡ shake128 (6 ∷ signatureH1 s) (S .executions * firstChallengeLength S)
     pub seconds-are : take (S .executions * S .wide) seconds ≡ shake128 (7 ∷ h2Of) (S .executions * S .wide)
-    pub thirds-are : take (S .executions * 4) thirds ≡ shake128 (8 ∷ h3) (S .executions * 4)
+    pub thirds-are : take (S .executions * 4) thirds ≡ shake128 (8 ∷ signatureH3 s) (S .executions * 4)
 
   -- what h1 and h3 bind of execution e
   module _ (publicKey : List ℕ) where
     abbrev pub firstPart : ℕ → List ℕ
-    firstPart e = frameH1Part (schemeOf S) publicKey salt h3 e (frameOf (schemeOf S) s e)
+    firstPart e = frameH1Part (schemeOf S) publicKey (signatureSalt s) (signatureH3 s) e (frameOf (schemeOf S) s e)
 
     abbrev pub thirdPart : ℕ → List ℕ
-    thirdPart e = frameH3Part (schemeOf S) publicKey salt h3 e (frameOf (schemeOf S) s e) h1 h2Of
+    thirdPart e = frameH3Part (schemeOf S) publicKey (signatureSalt s) (signatureH1 s) h2Of (signatureH3 s) e (frameOf (schemeOf S) s e)
+
+-- numbers 16 and 17, and 15 before them, of a signature s
+module _ (S : Shape) (publicKey message s : List ℕ) where
+  abbrev pub hashesAnswer : Answer
+  hashesAnswer =
+      inOrder (hashTests (schemeOf S) publicKey message (signatureSalt s) (signatureH1 s) (signatureH3 s) (frameOf (schemeOf S) s)) Accepted
+
+  abbrev pub signatureAnswer : Answer
+  signatureAnswer = checkSignature (schemeOf S) publicKey message (signatureSalt s) (signatureH1 s) (signatureH3 s) (frameOf (schemeOf S) s)

@@ -3,20 +3,22 @@ use banquet::Answer;
 use banquet::Shape;
 use frame_hashes::Hashes;
 ghost use mathlib.Core.Path.{_≡_};
-ghost use Prim.Native.Nat.{_-_, _*_, _≤_};
-ghost use lib.ListN.{length, take, drop};
+ghost use mathlib.Core.List.{[], _∷_};
+ghost use Prim.Native.Nat.{_*_, _≤_};
+ghost use lib.ListN.{length};
 ghost use Rattle.slices.specs.Lists.{rows as rowsOf, same};
 ghost use Rattle.slices.specs.Layout.{total};
 ghost use Rattle.stream.specs.Stream.{absorbed, finished, squeezed};
 ghost use Rattle.banquet.specs.declared.Answer.the-variants.{Accepted, FirstHashDiffers, ThirdHashDiffers};
+ghost use Rattle.banquet.specs.Shape.{headLength, workLength};
 ghost use Rattle.banquet.specs.Sets.{schemeOf};
-ghost use Rattle.banquet.specs.Answer.{require};
-ghost use Rattle.banquet.specs.Signature.{headPart, frameOf, recomputedH1, recomputedH3, checkSignature};
-ghost use Rattle.banquet.specs.Calls.{verify};
+ghost use Rattle.banquet.specs.Answer.{inOrder};
+ghost use Rattle.banquet.specs.Signature.{signatureH1, signatureH3};
+ghost use Rattle.banquet.specs.Calls.{checked, verify};
 ghost use Rattle.sets.specs.Valid.{Valid};
 ghost use Rattle.sets.specs.Bounds.{rowSizes};
 ghost use Rattle.scratch.specs.Scratch.{Scratch};
-ghost use Rattle.check_signature.specs.Steps.{Files, Drawn, h2Of, firstPart, thirdPart};
+ghost use Rattle.check_signature.specs.Steps.{Files, Drawn, h2Of, firstPart, thirdPart, hashesAnswer, signatureAnswer};
 
 // The parts of h1 and h3 of all executions, in one pass over the frames.
 fn absorb_executions(
@@ -44,7 +46,7 @@ fn absorb_executions(
         let u = frame_hashes::absorb_frame(
             shape,
             public,
-            &s[0..32],
+            heads::salt(s),
             e as u8,
             challenges::hidden(shape, thirds, e),
             &firsts[a..b],
@@ -81,9 +83,9 @@ fn recomputed(
     let mut firsts = [0u8; 2460];
     let mut seconds = [0u8; 246];
     let mut thirds = [0u8; 164];
-    hash_inputs::draw(6, &s[32..64], &mut firsts[0..f]);
+    hash_inputs::draw(6, heads::h1(s), &mut firsts[0..f]);
     hash_inputs::draw(7, h2, &mut seconds[0..w]);
-    hash_inputs::draw(8, &s[64..96], &mut thirds[0..p]);
+    hash_inputs::draw(8, heads::h3(s), &mut thirds[0..p]);
     absorb_executions(
         shape,
         public,
@@ -99,19 +101,19 @@ fn recomputed(
 
 // Numbers 16 and 17, from what the two hashes have absorbed.
 fn compare_hashes(s: &[u8], t: Hashes) -> Answer
-    requires { ⌜ 96 ≤ length (now s) ⌝ }
+    requires { ⌜ headLength ≤ length (now s) ⌝ }
     ensures { λ r. ⌜ r
-        ≡ require (same (squeezed (finished (t .first)) 32) (take (64 - 32) (drop 32 (now (s .entry))))) FirstHashDiffers
-        (require (same (squeezed (finished (t .third)) 32) (take (96 - 64) (drop 64 (now (s .entry))))) ThirdHashDiffers Accepted) ⌝ }
+        ≡ inOrder ((same (squeezed (finished (t .first)) 32) (signatureH1 (now (s .entry))), FirstHashDiffers)
+        ∷ (same (squeezed (finished (t .third)) 32) (signatureH3 (now (s .entry))), ThirdHashDiffers) ∷ []) Accepted ⌝ }
 {
     let mut first = [0u8; 32];
     hash_inputs::output(t.first, &mut first);
-    if !equal::equal(&first, &s[32..64]) {
+    if !equal::equal(&first, heads::h1(s)) {
         return Answer::FirstHashDiffers;
     }
     let mut third = [0u8; 32];
     hash_inputs::output(t.third, &mut third);
-    if !equal::equal(&third, &s[64..96]) {
+    if !equal::equal(&third, heads::h3(s)) {
         return Answer::ThirdHashDiffers;
     }
     Answer::Accepted
@@ -129,27 +131,20 @@ fn check_hashes(
 ) -> Answer
     requires { ⌜ Files shape (now public) (now s) × (now h2 ≡ h2Of shape (now s)) × (length (now commitments) ≡ shape .parties * 32)
         × (length (now rows) ≡ shape .parties * total (rowSizes shape)) ⌝ }
-    ensures { λ r. ⌜ r
-        ≡ require (same (recomputedH1 (schemeOf shape) (now (public .entry)) (now (message .entry)) (headPart (schemeOf shape) 0 (now (s .entry)))
-        (headPart (schemeOf shape) 1 (now (s .entry))) (headPart (schemeOf shape) 2 (now (s .entry))) (frameOf (schemeOf shape) (now (s .entry))))
-        (headPart (schemeOf shape) 1 (now (s .entry)))) FirstHashDiffers
-        (require (same (recomputedH3 (schemeOf shape) (now (public .entry)) (now (message .entry)) (headPart (schemeOf shape) 0 (now (s .entry)))
-        (headPart (schemeOf shape) 1 (now (s .entry))) (headPart (schemeOf shape) 2 (now (s .entry))) (frameOf (schemeOf shape) (now (s .entry))))
-        (headPart (schemeOf shape) 2 (now (s .entry)))) ThirdHashDiffers Accepted) ⌝ }
+    ensures { λ r. ⌜ r ≡ hashesAnswer shape (now (public .entry)) (now (message .entry)) (now (s .entry)) ⌝ }
 {
     let start = Hashes {
-        first: hash_inputs::first_input(public, message, &s[0..32]),
+        first: hash_inputs::first_input(public, message, heads::salt(s)),
         third: hash_inputs::tagged(3, h2),
     };
     let t = recomputed(shape, public, s, h2, start, commitments, rows);
     compare_hashes(s, t)
 }
 
-// Number 15, and then those.
+// Numbers 15, 16 and 17.
 fn check_products(shape: Shape, public: &[u8], message: &[u8], s: &[u8], work: &mut [u8]) -> Answer
-    requires { ⌜ Files shape (now public) (now s) × (65536 ≤ length (now work)) ⌝ }
-    ensures { λ r. ⌜ r ≡ checkSignature (schemeOf shape) (now (public .entry)) (now (message .entry)) (headPart (schemeOf shape) 0 (now (s .entry)))
-        (headPart (schemeOf shape) 1 (now (s .entry))) (headPart (schemeOf shape) 2 (now (s .entry))) (frameOf (schemeOf shape) (now (s .entry))) ⌝ }
+    requires { ⌜ Files shape (now public) (now s) × (workLength ≤ length (now work)) ⌝ }
+    ensures { λ r. ⌜ r ≡ signatureAnswer shape (now (public .entry)) (now (message .entry)) (now (s .entry)) ⌝ }
     ensures { λ _. ⌜ Scratch (now (work .entry)) (now (work .exit)) ⌝ }
 {
     let found = frame_products::first_product(shape, s);
@@ -174,21 +169,13 @@ fn check_products(shape: Shape, public: &[u8], message: &[u8], s: &[u8], work: &
 // The call, which refuses by lengths first.
 pub fn check(shape: Shape, public: &[u8], message: &[u8], s: &[u8], work: &mut [u8]) -> Answer
     requires { ⌜ Valid shape ⌝ }
-    ensures { λ r. ⌜ r ≡ verify (schemeOf shape) (now (public .entry)) (now (message .entry)) (now (s .entry)) (now (work .entry)) .answer ⌝ }
-    ensures { λ _. ⌜ now (work .exit)
-        ≡ verify (schemeOf shape) (now (public .entry)) (now (message .entry)) (now (s .entry)) (now (work .entry)) .work ⌝ }
+    ensures { λ r. ⌜ checked r (now (work .exit))
+        ≡ verify (schemeOf shape) (now (public .entry)) (now (message .entry)) (now (s .entry)) (now (work .entry)) ⌝ }
 {
-    if public.len() != 32 {
-        return Answer::PublicKeyLength;
-    }
-    if 32768 < message.len() {
-        return Answer::MessageLength;
-    }
-    if s.len() != frames::signature_length(shape) {
-        return Answer::FileLength;
-    }
-    if work.len() < 65536 {
-        return Answer::WorkLength;
+    let refusal = lengths::verify(shape, public.len(), message.len(), s.len(), work.len());
+    match refusal {
+        Answer::Accepted => {}
+        _ => return refusal,
     }
     let answer = check_products(shape, public, message, s, work);
     scratch::clear(work);

@@ -74,7 +74,7 @@ module _ {S : Shape} (v : Valid S) where
       lifts j k = lifted (schemeOf S) (getD bytes (sboxAt S j k) 0)
 
       pub S-value : (r s : ℕ → ℕ)
-          → through (schemeOf S) (suc m2) (valuesS (wideOps (schemeOf S)) m1 m2 r lifts s j) x ≡ valueS S (r j) (rowAt S bytes j x) (s j) (near S x m2)
+          → through (schemeOf S) (suc m2) (valuesS (wideOps (schemeOf S)) m2 r lifts s j) x ≡ valueS S (r j) (rowAt S bytes j x) (s j) (near S x m2)
       unfolding valueS rowAt
       S-value r s =
           last-apart (λ k. mul (8 * wide) low (r j) (lifts j k)) (s j)
@@ -82,13 +82,13 @@ module _ {S : Shape} (v : Valid S) where
           (sum-cong (wideOps (schemeOf S)) m2 (λ k l. mul-assoc F (r j) (lifts j k) (near S x k)) ∙ sum-mul F m2 (r j) _)
 
       pub T-value : (t : ℕ → ℕ)
-          → through (schemeOf S) (suc m2) (valuesT (wideOps (schemeOf S)) m1 m2 lifts t j) x ≡ valueT S (rowAt S bytes j x) (t j) (near S x m2)
+          → through (schemeOf S) (suc m2) (valuesT m2 lifts t j) x ≡ valueT S (rowAt S bytes j x) (t j) (near S x m2)
       unfolding valueT rowAt
       T-value t = last-apart (λ k. lifts j k) (t j)
 
     -- P: the public value times the sum of the values for the points below 20, and the others
     pub P-value : (a : ℕ) (p : ℕ → ℕ)
-        → through (schemeOf S) (suc (2 * m2)) (valuesP (wideOps (schemeOf S)) m1 m2 a p) x
+        → through (schemeOf S) (suc (2 * m2)) (valuesP m2 a p) x
         ≡ bitXor (mul (8 * wide) low a (sum (wideOps (schemeOf S)) m2 (far S x)))
         (sum (wideOps (schemeOf S)) (suc m2) (λ n. mul (8 * wide) low (p (m2 + n)) (far S x (m2 + n))))
     unfolding interpolated

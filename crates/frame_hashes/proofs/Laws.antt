@@ -3,7 +3,7 @@ use mathlib.Core.Path.{_≡_, refl, sym, ap, ap₂, _∙_}
 use mathlib.Core.List.{List, [], _∷_, _++_, append-nil}
 use Prim.Native.Nat.{ℕ, suc, _+_, _-_, _*_}
 use native.Mathlib.Omega.{arith}
-use lib.ListN.{length, take, drop, length-take, length-drop}
+use lib.ListN.{length, take, drop, length-drop}
 use lib.Seq.{take-at, take-all, drop-drop}
 use Rattle.slices.specs.Lists.{rows, row}
 use Rattle.slices.specs.Tab.{rows-cong, row-of-rows}
@@ -16,6 +16,7 @@ use Rattle.banquet.specs.Shape.{frameSizes}
 use Rattle.banquet.specs.Sets.{schemeOf}
 use Rattle.banquet.specs.Hash.{tape}
 use Rattle.banquet.specs.Execution.{challenge}
+use Rattle.banquet.specs.Key.{frontOf, ciphertextOf}
 use Rattle.banquet.specs.Signature.{framePart}
 use Rattle.sets.specs.Valid.{Valid}
 use Rattle.sets.specs.Bounds.{rowSizes}
@@ -56,29 +57,21 @@ module _ (S : Shape) (frame : List ℕ) {len : ℕ} (long : length frame ≡ tot
       ∙ ap (λ (x : List ℕ). framePart (schemeOf S) frame 5 ++ (framePart (schemeOf S) frame 6 ++ x)) (append-nil (framePart (schemeOf S) frame 7))
 
   -- the sum of all rows, written part by part
-  pub whole-written : Valid S → (publicKey : List ℕ) {d l : List ℕ} → length publicKey ≡ 32
-      → Wrote d (([] ++ take (32 - 16) (drop 16 publicKey)) ++ take (length frame - from) (drop from frame)) (0 + 16 + (len - 16)) l
+  pub whole-written : (publicKey : List ℕ) {d l : List ℕ}
+      → Wrote d (([] ++ ciphertextOf (schemeOf S) publicKey) ++ take (length frame - from) (drop from frame)) (0 + 16 + (len - 16)) l
       → take (len - 0) l ≡ wholeRow S publicKey frame
-  whole-written v publicKey {d} h w =
+  whole-written publicKey {d} w =
       let n : len - 0 ≡ 0 + 16 + (len - 16) = omega (arith, e) in
-      let text : take (32 - 16) (drop 16 publicKey) ≡ drop (S .front) publicKey =
-      take-all 16 (drop 16 publicKey) (omega (arith, h, length-drop 16 publicKey)) ∙ ap (λ n. drop n publicKey) (sym (v .plaintext)) in
+      let text = ciphertextOf (schemeOf S) publicKey in
       ap₂ (λ (k : ℕ) (x : List ℕ). take k x) n (wrote-all w)
-      ∙ take-at (take (32 - 16) (drop 16 publicKey) ++ take (length frame - from) (drop from frame)) (drop (0 + 16 + (len - 16)) d)
-      (0 + 16 + (len - 16)) (w .size)
-      ∙ ap₂ _++_ text sums-last
+      ∙ take-at (text ++ take (length frame - from) (drop from frame)) (drop (0 + 16 + (len - 16)) d) (0 + 16 + (len - 16)) (w .size)
+      ∙ ap (text ++_) sums-last
 
 -- ---- what the rows are worked out from
 
 module _ {S : Shape} {publicKey salt : List ℕ} {hidden : ℕ} {first : List ℕ} {second : ℕ} {frame : List ℕ}
     (g : Given S publicKey salt hidden first second frame) where
-  pub public-long : length publicKey ≡ 32
-  public-long = omega (arith, g .public-sized .size, g .valid .plaintext)
-
-  pub front-long : length (take 16 publicKey) ≡ S .front
-  front-long = rw length-take (omega (arith, public-long, g .valid .plaintext))
-
-  module _ (e : ℕ) (seeds : List ℕ) {front key inverse product : List ℕ} (front-is : front ≡ take 16 publicKey)
+  module _ (e : ℕ) (seeds : List ℕ) {front key inverse product : List ℕ} (front-is : front ≡ frontOf (schemeOf S) publicKey)
       (key-is : key ≡ framePart (schemeOf S) frame 2) (inverse-is : inverse ≡ framePart (schemeOf S) frame 3)
       (product-is : product ≡ framePart (schemeOf S) frame 4) where
     -- the rows of those whose seeds are shown, and that of the hidden party
@@ -107,5 +100,4 @@ module _ {S : Shape} {publicKey salt : List ℕ} {hidden : ℕ} {first : List �
 
         right : made ≡ rows shown (S .parties)
         right =
-            let front-right : front ≡ take (S .front) publicKey = front-is ∙ ap (λ n. take n publicKey) (sym (g .valid .plaintext)) in
-            m ∙ rw (front-right, key-is, inverse-is, product-is) refl
+            m ∙ rw (front-is, key-is, inverse-is, product-is) refl

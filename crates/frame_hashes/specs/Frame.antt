@@ -79,7 +79,7 @@ module _ (S : Shape) (publicKey salt : List ℕ) (e hidden : ℕ) (first : List 
   shareO i = outputShare (schemeOf S) committedShown i (tapeShown i)
 
   abbrev shareC : ℕ → ℕ
-  shareC i = openedC (schemeOf S) committedShown i (tapeShown i) challengeShown
+  shareC i = openedC (schemeOf S) i (tapeShown i) challengeShown
 
   abbrev shareA : ℕ → ℕ → ℕ
   shareA i = openedA (schemeOf S) committedShown i (tapeShown i) challengeShown
@@ -204,7 +204,7 @@ module _ (S : Shape) (publicKey salt : List ℕ) (e hidden : ℕ) (first : List 
         (ap₂ _++_
         (hidden-field 1
         ∙ number-left parties hidden wide (S .low) shareC (shown-sized 5)
-        (λ i l. wide-C (schemeOf S) (laws v) committedShown challengeShown wides i (tape-sized i)))
+        (λ i l. wide-C (schemeOf S) (laws v) challengeShown wides i (tape-sized i)))
         (ap₂ _++_
         (hidden-field 2
         ∙ numbers-left parties hidden wide (S .low) m1 shareA (shown-sized 6)

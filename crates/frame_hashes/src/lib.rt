@@ -10,7 +10,7 @@ ghost use Rattle.slices.specs.Layout.{total};
 ghost use Rattle.stream.specs.Stream.{absorbed};
 ghost use Rattle.columns.specs.Column.{columnOf};
 ghost use Rattle.complete.specs.Complete.{completedRow};
-ghost use Rattle.banquet.specs.Shape.{frameSizes};
+ghost use Rattle.banquet.specs.Shape.{publicKeyLength, frameSizes};
 ghost use Rattle.banquet.specs.Sets.{schemeOf};
 ghost use Rattle.banquet.specs.Signature.{framePart};
 ghost use Rattle.sets.specs.Valid.{Valid};
@@ -26,7 +26,7 @@ pub struct Hashes {
 
 // The hidden party's row is what the others' leave of the sum of all: the ciphertext, and c, a and b, which end the frame.
 fn complete_rows(shape: Shape, public: &[u8], hidden: usize, frame: &[u8], rows: &mut [u8])
-    requires { ⌜ Valid shape × (length (now public) ≡ 32) × (hidden < shape .parties) × (length (now frame) ≡ total (frameSizes shape))
+    requires { ⌜ Valid shape × (length (now public) ≡ publicKeyLength shape) × (hidden < shape .parties) × (length (now frame) ≡ total (frameSizes shape))
         × (length (now rows) ≡ shape .parties * total (rowSizes shape)) ⌝ }
     ensures { λ _. ⌜ now (rows .exit)
         ≡ rowsOf (completedRow (shape .parties) hidden (wholeRow shape (now (public .entry)) (now (frame .entry)))
@@ -37,7 +37,7 @@ fn complete_rows(shape: Shape, public: &[u8], hidden: usize, frame: &[u8], rows:
     let end = frame.len();
     let mut whole = [0u8; 142];
     let mut left = [0u8; 142];
-    slices::copy_at(&mut whole, 0, &public[16..32]);
+    slices::copy_at(&mut whole, 0, sets::ciphertext(shape, public));
     slices::copy_at(&mut whole, 16, &frame[end - n..end]);
     complete::complete(
         shape.parties,
@@ -89,7 +89,7 @@ fn frame_rows(
         salt,
         e,
         leaves,
-        &public[0..16],
+        sets::front(shape, public),
         frames::part(shape, 2, frame),
         frames::part(shape, 3, frame),
         first,

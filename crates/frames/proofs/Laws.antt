@@ -10,7 +10,7 @@ use borrow.Author.Tests.{eq-eqb, ne-eqb, le-ltb}
 use Rattle.slices.specs.Lists.{part}
 use Rattle.slices.specs.Layout.{total}
 use Rattle.banquet.specs.declared.Shape.{Shape}
-use Rattle.banquet.specs.Shape.{frameSizes, signatureLength}
+use Rattle.banquet.specs.Shape.{headLength, frameSizes, signatureLength}
 use Rattle.banquet.specs.Sets.{schemeOf}
 use Rattle.banquet.specs.Signature.{frameOf}
 use Rattle.frames.specs.Frames.{frame-is, frame-room}
@@ -31,10 +31,10 @@ module _ (S : Shape) (s : List ℕ) (e : ℕ) {whole size : ℕ} (w : whole ≡ 
 
     -- "that part of the caller's own file"
     module _ (l : e < executions) where
-      pub ends-within : 96 + e * size + size ≤ length s
+      pub ends-within : headLength + e * size + size ≤ length s
       ends-within = rw z (omega (arith, frame-room S s (h ∙ w) l))
 
-      pub framed : part (96 + e * size) (96 + e * size + size - (96 + e * size)) s ≡ frameOf (schemeOf S) s e
+      pub framed : part (headLength + e * size) (headLength + e * size + size - (headLength + e * size)) s ≡ frameOf (schemeOf S) s e
       framed =
-          let n : 96 + e * size + size - (96 + e * size) ≡ size = omega arith in
-          rw (n, z) (sym (frame-is S s (h ∙ w) l ∙ ap (take (total (frameSizes S))) (drop-drop (e * total (frameSizes S)) 96 s)))
+          let n : headLength + e * size + size - (headLength + e * size) ≡ size = omega arith in
+          rw (n, z) (sym (frame-is S s (h ∙ w) l ∙ ap (take (total (frameSizes S))) (drop-drop (e * total (frameSizes S)) headLength s)))

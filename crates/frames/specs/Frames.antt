@@ -14,7 +14,7 @@ use Rattle.slices.specs.Tab.{row-fits}
 use Rattle.slices.specs.Bytes.{Bytes, Sized, nil-bytes, drop-bytes, part-bytes}
 use Rattle.slices.specs.Layout.{total, length-field}
 use Rattle.banquet.specs.declared.Shape.{Shape}
-use Rattle.banquet.specs.Shape.{frameSizes, signatureLength}
+use Rattle.banquet.specs.Shape.{headLength, frameSizes, signatureLength}
 use Rattle.banquet.specs.Sets.{schemeOf}
 use Rattle.banquet.specs.Signature.{frameOf, framePart}
 use Rattle.sets.specs.Valid.{Valid}
@@ -51,21 +51,21 @@ module _ (S : Shape) (s : List ℕ) where
 
   -- it lies in the signature
   pub frame-room : {e : ℕ} → length s ≡ signatureLength S → e < executions
-      → 96 + (e * total (frameSizes S) + total (frameSizes S)) ≤ length s
+      → headLength + (e * total (frameSizes S) + total (frameSizes S)) ≤ length s
   frame-room {e} h l = omega (arith, row-fits (total (frameSizes S)) l)
 
   -- "that part of the caller's own file"
   pub frame-is : {e : ℕ} → length s ≡ signatureLength S → e < executions
-      → frameOf (schemeOf S) s e ≡ row (total (frameSizes S)) e (drop 96 s)
+      → frameOf (schemeOf S) s e ≡ row (total (frameSizes S)) e (drop headLength s)
   unfolding frameOf
   frame-is {e} h l = rw (eq-eqb (length s) (signatureLength S) h, lt-ltb e executions l)
 
   pub length-frame : {e : ℕ} → length s ≡ signatureLength S → e < executions → length (frameOf (schemeOf S) s e) ≡ total (frameSizes S)
   length-frame {e} h l =
       let n = total (frameSizes S) in
-      let rest = length-drop (e * n) (drop 96 s) in
+      let rest = length-drop (e * n) (drop headLength s) in
       ap length (frame-is h l)
-      ∙ length-take-le n (drop (e * n) (drop 96 s)) (omega (arith, frame-room h l, rest, length-drop 96 s))
+      ∙ length-take-le n (drop (e * n) (drop headLength s)) (omega (arith, frame-room h l, rest, length-drop headLength s))
 
   -- whatever e and the length of s: an empty part is bytes too
   pub frame-bytes : (e : ℕ) → Bytes s → Bytes (frameOf (schemeOf S) s e)
@@ -73,7 +73,7 @@ module _ (S : Shape) (s : List ℕ) where
   frame-bytes e p =
       let n = total (frameSizes S) in
       chosen-bytes (eqb (length s) (signatureLength S))
-      (chosen-bytes (ltb e executions) (part-bytes (e * n) n (drop 96 s) (drop-bytes 96 s p)) nil-bytes) nil-bytes
+      (chosen-bytes (ltb e executions) (part-bytes (e * n) n (drop headLength s) (drop-bytes headLength s p)) nil-bytes) nil-bytes
 
   pub sized-frame : {e : ℕ} → Sized (signatureLength S) s → e < executions → Sized (total (frameSizes S)) (frameOf (schemeOf S) s e)
   sized-frame {e} z l = record { size = length-frame (z .size) l; bytes = frame-bytes e (z .bytes) }

@@ -58,7 +58,7 @@ pub fn signature_length(shape: Shape) -> usize
     requires { ⌜ Valid shape ⌝ }
     ensures { λ r. ⌜ (r ≡ signatureLength shape) × (r ≤ 25188) ⌝ }
 {
-    96 + shape.executions * frame_length(shape)
+    heads::LENGTH + shape.executions * frame_length(shape)
 }
 
 // "A reader that wants frame e is handed that part of the caller's own file, or an empty part if e is over 40 or the file hasn't exactly a seal's
@@ -74,7 +74,7 @@ pub fn frame<'a>(shape: Shape, s: &'a [u8], e: usize) -> &'a [u8]
     if e >= shape.executions {
         return &s[0..0];
     }
-    let a = 96 + e * size;
+    let a = heads::LENGTH + e * size;
     let b = a + size;
     &s[a..b]
 }

@@ -25,9 +25,6 @@ use Rattle.make_opening.specs.Steps.{Inverted, AtPoints}
 pub at-most : {a n k : ℕ} → a ≡ n → n ≤ k → a ≤ k
 at-most e h = omega (arith, e, h)
 
-pub front-room : {n : ℕ} → n ≡ 32 → 16 ≤ n
-front-room e = omega (arith, e)
-
 module _ {S : Shape} (v : Valid S) where
   open Shape S using (parties, depth, wide, m1)
 

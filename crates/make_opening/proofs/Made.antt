@@ -34,12 +34,12 @@ module _ {S : Shape} (v : Valid S) (key public salt root first seeds : List ℕ)
   drawn i l = hashed-tape (schemeOf S) (laws v) salt e i (row 16 i seeds)
 
   -- the offsets as `signer` leaves them, the rows as `execution` does
-  module _ {inverses us vs lasts k y o s : List ℕ} (root-size : length root ≡ 16)
+  module _ {inverses us vs lasts k y o f s : List ℕ} (root-size : length root ≡ 16)
       (seeds-is : seeds ≡ nodeSeeds (leaves shake128 salt e depth 0 root)) (p : AtPoints S key public inverses us vs lasts)
       (k-is : k ≡ zipXor key (tapePart (schemeOf S) 0 (sumXor parties tapes)))
       (y-is : y ≡ zipXor inverses (tapePart (schemeOf S) 1 (sumXor parties tapes)))
-      (o-is : o ≡ workedOffsets S us vs lasts (sumXor parties tapes) first)
-      (s-is : s ≡ rows (λ i. shareRow (schemeOf S) (committed (take 16 public) k y) (challenge (schemeOf S) first o second) i (tapes i)) parties)
+      (o-is : o ≡ workedOffsets S us vs lasts (sumXor parties tapes) first) (f-is : f ≡ front)
+      (s-is : s ≡ rows (λ i. shareRow (schemeOf S) (committed f k y) (challenge (schemeOf S) first o second) i (tapes i)) parties)
     where
       made : Made S key public salt root first e second seeds front k y o s
       made = record {
@@ -48,8 +48,7 @@ module _ {S : Shape} (v : Valid S) (key public salt root first seeds : List ℕ)
         inverses-are = y-is ∙ inverse-offsets v drawn front key (p .inverses-is);
         offsets-are = o-is ∙ product-offsets v drawn front key refl (p .inverses-is) (p .us-is) (p .vs-is) (p .lasts-is) first;
         rows-are = s-is
-            ∙ ap (λ n. rows (λ i. shareRow (schemeOf S) (committed (take n public) k y) (challenge (schemeOf S) first o second) i (tapes i)) parties)
-            (sym (v .plaintext));
+            ∙ ap (λ f. rows (λ i. shareRow (schemeOf S) (committed f k y) (challenge (schemeOf S) first o second) i (tapes i)) parties) f-is;
       }
 
       pub opening-made : {out : List ℕ} → out ≡ written S salt e root hidden seeds k y first o second s

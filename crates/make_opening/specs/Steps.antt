@@ -4,7 +4,7 @@ use mathlib.Core.List.{List}
 use Prim.Native.Nat.{ℕ, _*_, _^_, _≤_, _<_}
 use lib.ListN.{length}
 use Rattle.banquet.specs.declared.Shape.{Shape}
-use Rattle.banquet.specs.Shape.{firstChallengeLength}
+use Rattle.banquet.specs.Shape.{publicKeyLength, firstChallengeLength}
 use Rattle.banquet.specs.Scheme.{trueInverses}
 use Rattle.banquet.specs.Sets.{schemeOf}
 use Rattle.banquet.specs.Key.{frontOf}
@@ -15,7 +15,7 @@ use Rattle.forms.specs.Point.{pointRows, pointLasts}
 pub record Lengths (S : Shape) (key publicKey salt root first : List ℕ) : Type 0 where
   pub valid : Valid S
   pub key-size : length key ≡ 16
-  pub public-size : length publicKey ≡ 32
+  pub public-size : length publicKey ≡ publicKeyLength S
   pub salt-size : length salt ≡ 32
   pub root-size : length root ≡ 16
   pub first-size : length first ≡ firstChallengeLength S

@@ -5,7 +5,7 @@ ghost use Prim.Native.Nat.{_*_, _≤_};
 ghost use lib.ListN.{length};
 ghost use Rattle.slices.specs.Layout.{total};
 ghost use Rattle.shake.specs.Shake128.{shake128};
-ghost use Rattle.banquet.specs.Shape.{openingLength, productPoints};
+ghost use Rattle.banquet.specs.Shape.{workLength, openingLength, productPoints};
 ghost use Rattle.banquet.specs.declared.Answer.the-variants.{Accepted};
 ghost use Rattle.banquet.specs.Sets.{schemeOf};
 ghost use Rattle.banquet.specs.Answer.{outputAfter};
@@ -70,7 +70,7 @@ fn make_shares(
         salt,
         e,
         seeds,
-        &public[0..16],
+        sets::front(shape, public),
         key_offset,
         inverse_offsets,
         first,
@@ -113,7 +113,7 @@ pub fn make(
 )
     requires { ⌜ Lengths shape (now key) (now public) (now salt) (now root) (now first)
         × Ranges shape e second hidden × Inverted shape (now key) (now public) (now inputs) (now inverses)
-        × (openingLength shape ≤ length (now out)) × (65536 ≤ length (now work)) ⌝ }
+        × (openingLength shape ≤ length (now out)) × (workLength ≤ length (now work)) ⌝ }
     ensures { λ _. ⌜ now (out .exit)
         ≡ outputAfter Accepted (opening (schemeOf shape) (now (key .entry)) (now (public .entry)) (now (salt .entry)) (now (root .entry))
         (now (first .entry)) e second hidden) (now (out .entry)) ⌝ }

@@ -15,7 +15,7 @@ use Rattle.stream.specs.Stream.{empty, absorbed, finished, squeezed}
 use Rattle.banquet.specs.declared.Shape.{Shape}
 use Rattle.banquet.specs.Shape.{frameSizes, firstChallengeLength}
 use Rattle.banquet.specs.Sets.{schemeOf}
-use Rattle.banquet.specs.Hash.{firstHash, secondHash, thirdHash, firstChallenge, secondChallenge, hiddenParty, evaluationPoint, partyOf}
+use Rattle.banquet.specs.Hash.{firstInput, firstHash, secondHash, thirdHash, firstChallenge, secondChallenge, hiddenParty, evaluationPoint, partyOf}
 use Rattle.sets.specs.Valid.{Valid}
 use Rattle.forms.specs.Point.{pointRows, pointLasts}
 use Rattle.signing.specs.Steps.{offsetsAt, witnessLength, ownRow, ownPart, offsetFrame, openedFrame, openedPart, finishedFrame}
@@ -28,17 +28,17 @@ module _ {S : Shape} (v : Valid S) where
   -- ---- the witness, as the code holds it
 
   module _ {witness held : List ℕ} (w : held ≡ witness) where
-    pub first-hashed : {publicKey message salt : List ℕ} (front roots : List ℕ) {s t : Sponge} → Bytes publicKey → Bytes message → Bytes salt
-        → Bytes witness → s ≡ absorbed empty (1 ∷ (publicKey ++ bytesOf 4 (length message) ++ message ++ salt))
-        → t ≡ absorbed s (rows (λ e. ownPart S front held salt (row 16 e roots) e) executions)
+    pub first-hashed : {publicKey message salt : List ℕ} (front roots : List ℕ) {f : List ℕ} {s t : Sponge} → f ≡ front
+        → Bytes publicKey → Bytes message → Bytes salt → Bytes witness → s ≡ absorbed empty (firstInput publicKey message salt)
+        → t ≡ absorbed s (rows (λ e. ownPart S f held salt (row 16 e roots) e) executions)
         → squeezed (finished t) 32 ≡ firstHash (schemeOf S) publicKey message salt (λ e. ownPart S front witness salt (row 16 e roots) e)
     unfolding firstHash
-    first-hashed {publicKey} {message} {salt} front roots {s} p m b k e f =
-        hashed (1 ∷ (publicKey ++ bytesOf 4 (length message) ++ message ++ salt))
+    first-hashed {publicKey} {message} {salt} front roots {s = s} is p m b k e h =
+        hashed (firstInput publicKey message salt)
         (rows (λ e. ownPart S front witness salt (row 16 e roots) e) executions)
         (cons-bytes (lit< tt) (append-bytes (append-bytes (append-bytes p (bytesOf-bytes 4 (length message))) m) b))
         (rows-bytes _ executions (λ e l. own-part-bytes v witness salt (row 16 e roots) e front k)) e
-        (f ∙ ap (λ x. absorbed s (rows (λ e. ownPart S front x salt (row 16 e roots) e) executions)) w)
+        (h ∙ ap₂ (λ f x. absorbed s (rows (λ e. ownPart S f x salt (row 16 e roots) e) executions)) is w)
 
     pub begun-right : (salt roots frames : List ℕ) {out : List ℕ}
         → out ≡ rows (λ e. put (row (total (frameSizes S)) e frames) (offsetsAt S) (ownRow S held salt (row 16 e roots) e)) executions
@@ -67,29 +67,29 @@ module _ {S : Shape} (v : Valid S) where
     unfolding secondChallenge
     second-at e = ap (λ t. evaluationPoint (S .m2) (numberAt wide e t)) drawn
 
-    module _ (front salt roots firsts frames : List ℕ) where
+    module _ (front salt roots firsts frames : List ℕ) {f : List ℕ} (is : f ≡ front) where
       pub opened-right : {out : List ℕ}
-          → out ≡ rows (λ e. openedFrame S front salt (row 16 e roots) e (row (firstChallengeLength S) e firsts)
+          → out ≡ rows (λ e. openedFrame S f salt (row 16 e roots) e (row (firstChallengeLength S) e firsts)
           (evaluationPoint (S .m2) (numberAt wide e seconds)) (row (total (frameSizes S)) e frames)) executions
           → out ≡ rows (λ e. openedFrame S front salt (row 16 e roots) e (row (firstChallengeLength S) e firsts)
           (secondChallenge (schemeOf S) h2 e) (row (total (frameSizes S)) e frames)) executions
       opened-right h =
-          h ∙ ap (λ f. rows (λ e. openedFrame S front salt (row 16 e roots) e (row (firstChallengeLength S) e firsts) (f e)
-          (row (total (frameSizes S)) e frames)) executions) (fun-ext second-at)
+          h ∙ ap₂ (λ f R. rows (λ e. openedFrame S f salt (row 16 e roots) e (row (firstChallengeLength S) e firsts) (R e)
+          (row (total (frameSizes S)) e frames)) executions) is (fun-ext second-at)
 
       pub third-hashed : {s t : Sponge} → Bytes h2 → s ≡ absorbed empty (3 ∷ h2)
-          → t ≡ absorbed s (rows (λ e. openedPart S front salt (row 16 e roots) e (row (firstChallengeLength S) e firsts)
+          → t ≡ absorbed s (rows (λ e. openedPart S f salt (row 16 e roots) e (row (firstChallengeLength S) e firsts)
           (evaluationPoint (S .m2) (numberAt wide e seconds)) (row (total (frameSizes S)) e frames)) executions)
           → squeezed (finished t) 32
           ≡ thirdHash (schemeOf S) h2 (λ e. openedPart S front salt (row 16 e roots) e (row (firstChallengeLength S) e firsts)
           (secondChallenge (schemeOf S) h2 e) (row (total (frameSizes S)) e frames))
       unfolding thirdHash
-      third-hashed {s} p e f =
+      third-hashed {s} p e h =
           hashed (3 ∷ h2) (rows (λ e. openedPart S front salt (row 16 e roots) e (row (firstChallengeLength S) e firsts)
           (secondChallenge (schemeOf S) h2 e) (row (total (frameSizes S)) e frames)) executions)
           (cons-bytes (lit< tt) p) (rows-bytes _ executions (λ e l. opened-part-bytes v _ _ _ e _ _ _)) e
-          (f ∙ ap (λ g. absorbed s (rows (λ e. openedPart S front salt (row 16 e roots) e (row (firstChallengeLength S) e firsts) (g e)
-          (row (total (frameSizes S)) e frames)) executions)) (fun-ext second-at))
+          (h ∙ ap₂ (λ f R. absorbed s (rows (λ e. openedPart S f salt (row 16 e roots) e (row (firstChallengeLength S) e firsts) (R e)
+          (row (total (frameSizes S)) e frames)) executions)) is (fun-ext second-at))
 
   pub finished-right : (h3 salt roots frames : List ℕ) {thirds out : List ℕ} → thirds ≡ shake128 (8 ∷ h3) (executions * 4)
       → out ≡ rows (λ e. finishedFrame S salt (row 16 e roots) e (partyOf (S .parties) (numberAt 4 e thirds)) (row (total (frameSizes S)) e frames))

@@ -1,15 +1,16 @@
 -- Lengths, and parts that are lent and come back. Assumes nothing.
 use mathlib.Core.Path.{_≡_, refl, ap, _∙_}
-use mathlib.Core.List.{List, [], _∷_, _++_, append-nil, append-assoc}
+use mathlib.Core.List.{List, [], _∷_, _++_, append-nil}
 use Prim.Native.Nat.{ℕ, _+_, _-_, _*_, _≤_}
 use native.Mathlib.Omega.{arith}
-use lib.ListN.{length, take, drop, length-take, length-drop, drop-of-length-le}
+use lib.ListN.{length, take, drop, length-drop, drop-of-length-le}
 use lib.Seq.{length-take-le, drop-at}
-use borrow.Rule.Slice.PartMut.{putMid, same-len-mid}
+use borrow.Rule.Slice.PartMut.{putMid}
 use Rattle.slices.specs.Lists.{rows, put}
 use Rattle.slices.specs.Layout.{layout}
 use Rattle.slices.proofs.Put.{length-put, wrote-none, wrote-more, wrote-all, front-long}
 use Rattle.banquet.specs.declared.Shape.{Shape}
+use Rattle.banquet.specs.Shape.{headLength, workLength}
 use Rattle.banquet.specs.Sets.{schemeOf}
 use Rattle.banquet.specs.Signature.{signerH1, signerH3, signerFrame, signature}
 use Rattle.sets.specs.Valid.{Valid}
@@ -30,27 +31,19 @@ module _ {S : Shape} (v : Valid S) where
   open Shape S using (parties)
 
   -- the tapes or the shares of an execution in the work slice, n bytes for each party
-  pub parties-lent : {size n : ℕ} → size ≡ n → size ≤ 462 → (work : List ℕ) → 65536 ≤ length work
+  pub parties-lent : {size n : ℕ} → size ≡ n → size ≤ 462 → (work : List ℕ) → workLength ≤ length work
       → length (take (parties * size - 0) work) ≡ parties * n
   parties-lent {size} e m work h = front-long (parties * size) work (omega (arith, tapes-most v m)) ∙ ap (parties *_) e
 
--- ---- the whole file: its frames are lent as `&mut d[96..end]`, and the head is written in front of them
+-- ---- the frames, lent as `&mut d[heads::LENGTH..end]`, stand behind the head
 
-pub file-made : (d y salt h1 h3 : List ℕ) {n : ℕ} {a b c : List ℕ} → length d ≡ 96 + n → length y ≡ n → length salt ≡ 32 → length h1 ≡ 32
-    → length h3 ≡ 32 → a ≡ put (putMid 96 (length d - 96) d y) 0 salt → b ≡ put a 32 h1 → c ≡ put b 64 h3
-    → c ≡ layout (salt ∷ h1 ∷ h3 ∷ []) ++ y
-unfolding layout
-file-made d y salt h1 h3 {n} {a} {b} {c} h k p q r e f g =
-    let kept : length (putMid 96 (length d - 96) d y) ≡ length d = same-len-mid 96 (length d - 96) d y
-    (omega (arith, length-take (length d - 96) (drop 96 d), length-drop 96 d)) in
-    let one = wrote-more salt (wrote-none (putMid 96 (length d - 96) d y)) p e (ap length e ∙ length-put _ 0 salt (omega arith)) in
-    let two = wrote-more h1 one q f (ap length f ∙ length-put a 32 h1 (omega (arith, one .long))) in
-    let three = wrote-more h3 two r g (ap length g ∙ length-put b 64 h3 (omega (arith, two .long))) in
-    let none : length (drop 96 d) ≤ length d - 96 = omega (arith, length-drop 96 d) in
-    let end : drop (length d - 96) (drop 96 d) ≡ [] = drop-of-length-le (drop 96 d) none in
-    let rest : drop 96 (putMid 96 (length d - 96) d y) ≡ y =
-    drop-at (take 96 d) (y ++ drop (length d - 96) (drop 96 d)) 96 (length-take-le 96 d (omega arith)) ∙ ap (y ++_) end ∙ append-nil y in
-    wrote-all three ∙ ap (((salt ++ h1) ++ h3) ++_) rest ∙ simp (append-assoc, append-nil)
+pub frames-behind : (d y : List ℕ) {n : ℕ} → length d ≡ headLength + n → length y ≡ n
+    → drop headLength (putMid headLength (length d - headLength) d y) ≡ y
+frames-behind d y {n} h k =
+    let none : length (drop headLength d) ≤ length d - headLength = omega (arith, length-drop headLength d) in
+    let end : drop (length d - headLength) (drop headLength d) ≡ [] = drop-of-length-le (drop headLength d) none in
+    drop-at (take headLength d) (y ++ drop (length d - headLength) (drop headLength d)) headLength (length-take-le headLength d (omega arith))
+    ∙ ap (y ++_) end ∙ append-nil y
 
 pub signature-is : (S : Shape) (key publicKey message salt roots : List ℕ) {h1 h3 frames : List ℕ}
     → h1 ≡ signerH1 (schemeOf S) key publicKey message salt roots → h3 ≡ signerH3 (schemeOf S) key publicKey message salt roots

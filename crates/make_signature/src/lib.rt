@@ -7,8 +7,9 @@ ghost use lib.ListN.{length, take};
 ghost use Rattle.slices.specs.Lists.{rows, row, part, put};
 ghost use Rattle.slices.specs.Layout.{total};
 ghost use Rattle.shake.specs.Shake128.{shake128};
-ghost use Rattle.banquet.specs.Shape.{sboxes, firstChallengeLength, frameSizes, signatureLength};
+ghost use Rattle.banquet.specs.Shape.{workLength, sboxes, publicKeyLength, firstChallengeLength, frameSizes, signatureLength};
 ghost use Rattle.banquet.specs.Sets.{schemeOf};
+ghost use Rattle.banquet.specs.Key.{frontOf};
 ghost use Rattle.banquet.specs.Hash.{firstHash, secondHash, thirdHash, firstChallenge, secondChallenge, hiddenParty};
 ghost use Rattle.banquet.specs.Signature.{signature};
 ghost use Rattle.scratch.specs.Scratch.{Scratch};
@@ -29,11 +30,11 @@ fn commit_pass(
     frames: &mut [u8],
     work: &mut [u8],
 ) -> [u8; 32]
-    requires { ⌜ Frames shape (now frames) × (length (now key) ≡ 16) × (length (now inverses) ≡ sboxes shape) × (length (now public) ≡ 32)
-        × (length (now salt) ≡ 32) × (length (now roots) ≡ shape .executions * 16) × (65536 ≤ length (now work)) ⌝ }
+    requires { ⌜ Frames shape (now frames) × (length (now key) ≡ 16) × (length (now inverses) ≡ sboxes shape) × (length (now public) ≡ publicKeyLength shape)
+        × (length (now salt) ≡ 32) × (length (now roots) ≡ shape .executions * 16) × (workLength ≤ length (now work)) ⌝ }
     ensures { λ r. ⌜ r
         ≡ firstHash (schemeOf shape) (now (public .entry)) (now (message .entry)) (now (salt .entry))
-        (λ e. ownPart shape (take 16 (now (public .entry))) (now (key .entry) ++ now (inverses .entry)) (now (salt .entry))
+        (λ e. ownPart shape (frontOf (schemeOf shape) (now (public .entry))) (now (key .entry) ++ now (inverses .entry)) (now (salt .entry))
         (row 16 e (now (roots .entry))) e) ⌝ }
     ensures { λ _. ⌜ now (frames .exit)
         ≡ rows (λ e. put (row (total (frameSizes shape)) e (now (frames .entry))) (offsetsAt shape)
@@ -51,7 +52,7 @@ fn commit_pass(
         shape,
         salt,
         roots,
-        &public[0..16],
+        sets::front(shape, public),
         witness,
         frames,
         &mut work[0..size],
@@ -110,15 +111,16 @@ fn open_pass(
     frames: &mut [u8],
     work: &mut [u8],
 ) -> [u8; 32]
-    requires { ⌜ Frames shape (now frames) × (length (now public) ≡ 32) × (length (now salt) ≡ 32) × (length (now roots) ≡ shape .executions * 16)
-        × (length (now h2) ≡ 32) × (length (now firsts) ≡ shape .executions * firstChallengeLength shape) × (65536 ≤ length (now work)) ⌝ }
+    requires { ⌜ Frames shape (now frames) × (length (now public) ≡ publicKeyLength shape) × (length (now salt) ≡ 32)
+        × (length (now roots) ≡ shape .executions * 16)
+        × (length (now h2) ≡ 32) × (length (now firsts) ≡ shape .executions * firstChallengeLength shape) × (workLength ≤ length (now work)) ⌝ }
     ensures { λ r. ⌜ r
         ≡ thirdHash (schemeOf shape) (now (h2 .entry))
-        (λ e. openedPart shape (take 16 (now (public .entry))) (now (salt .entry)) (row 16 e (now (roots .entry))) e
+        (λ e. openedPart shape (frontOf (schemeOf shape) (now (public .entry))) (now (salt .entry)) (row 16 e (now (roots .entry))) e
         (row (firstChallengeLength shape) e (now (firsts .entry))) (secondChallenge (schemeOf shape) (now (h2 .entry)) e)
         (row (total (frameSizes shape)) e (now (frames .entry)))) ⌝ }
     ensures { λ _. ⌜ now (frames .exit)
-        ≡ rows (λ e. openedFrame shape (take 16 (now (public .entry))) (now (salt .entry)) (row 16 e (now (roots .entry))) e
+        ≡ rows (λ e. openedFrame shape (frontOf (schemeOf shape) (now (public .entry))) (now (salt .entry)) (row 16 e (now (roots .entry))) e
         (row (firstChallengeLength shape) e (now (firsts .entry))) (secondChallenge (schemeOf shape) (now (h2 .entry)) e)
         (row (total (frameSizes shape)) e (now (frames .entry)))) (shape .executions) ⌝ }
     ensures { λ _. ⌜ Scratch (now (work .entry)) (now (work .exit)) ⌝ }
@@ -133,7 +135,7 @@ fn open_pass(
         shape,
         salt,
         roots,
-        &public[0..16],
+        sets::front(shape, public),
         firsts,
         seconds,
         frames,
@@ -171,8 +173,9 @@ fn answer_passes(
     frames: &mut [u8],
     work: &mut [u8],
 ) -> [u8; 32]
-    requires { ⌜ Frames shape (now frames) × (length (now public) ≡ 32) × (length (now salt) ≡ 32) × (length (now roots) ≡ shape .executions * 16)
-        × (length (now inputs) ≡ sboxes shape) × (length (now inverses) ≡ sboxes shape) × (length (now h1) ≡ 32) × (65536 ≤ length (now work)) ⌝ }
+    requires { ⌜ Frames shape (now frames) × (length (now public) ≡ publicKeyLength shape) × (length (now salt) ≡ 32)
+        × (length (now roots) ≡ shape .executions * 16)
+        × (length (now inputs) ≡ sboxes shape) × (length (now inverses) ≡ sboxes shape) × (length (now h1) ≡ 32) × (workLength ≤ length (now work)) ⌝ }
     ensures { λ r. ⌜ Answered shape (now (public .entry)) (now (salt .entry)) (now (roots .entry)) (now (inputs .entry)) (now (inverses .entry))
         (now (h1 .entry)) (now (frames .entry)) r (now (frames .exit)) ⌝ }
     ensures { λ _. ⌜ Scratch (now (work .entry)) (now (work .exit)) ⌝ }
@@ -200,13 +203,13 @@ pub fn make(
     work: &mut [u8],
 )
     requires { ⌜ Given shape (now key) (now public) (now salt) (now roots) (now inputs) (now inverses)
-        × (length (now out) ≡ signatureLength shape) × (65536 ≤ length (now work)) ⌝ }
+        × (length (now out) ≡ signatureLength shape) × (workLength ≤ length (now work)) ⌝ }
     ensures { λ _. ⌜ now (out .exit)
         ≡ signature (schemeOf shape) (now (key .entry)) (now (public .entry)) (now (message .entry)) (now (salt .entry)) (now (roots .entry)) ⌝ }
     ensures { λ _. ⌜ Scratch (now (work .entry)) (now (work .exit)) ⌝ }
 {
     let end = out.len();
-    let frames = &mut out[96..end];
+    let frames = &mut out[heads::LENGTH..end];
     let h1 = commit_pass(
         shape,
         key,
@@ -229,7 +232,5 @@ pub fn make(
         frames,
         work,
     );
-    slices::copy_at(out, 0, salt);
-    slices::copy_at(out, 32, &h1);
-    slices::copy_at(out, 64, &h3);
+    heads::write(out, salt, &h1, &h3);
 }

@@ -4,13 +4,17 @@ use banquet::Shape;
 ghost use mathlib.Core.Path.{_≡_};
 ghost use Prim.Native.Nat.{_*_, _^_, _<_, _≤_};
 ghost use lib.ListN.{length};
-ghost use Rattle.banquet.specs.Shape.{openingLength};
+ghost use Rattle.banquet.specs.declared.Answer.the-variants.{Accepted};
+ghost use Rattle.banquet.specs.Shape.{workLength, openingLength};
 ghost use Rattle.banquet.specs.Sets.{schemeOf};
-ghost use Rattle.banquet.specs.Calls.{openExecution};
+ghost use Rattle.banquet.specs.Answer.{inOrder};
+ghost use Rattle.banquet.specs.Key.{checkKey};
+ghost use Rattle.banquet.specs.Opening.{rangeTests, opening};
+ghost use Rattle.banquet.specs.Calls.{made, madeAfter, openExecution};
 ghost use Rattle.sets.specs.Valid.{Valid};
 ghost use Rattle.make_opening.specs.Steps.{Lengths};
 
-// The call where lengths are right: 8 to 12, and else the opening.
+// Numbers 8 to 12, and else the opening.
 fn open_key(
     shape: Shape,
     key: &[u8],
@@ -25,25 +29,16 @@ fn open_key(
     work: &mut [u8],
 ) -> Answer
     requires { ⌜ Lengths shape (now key) (now public) (now salt) (now root) (now first)
-        × (second < 2 ^ (8 * shape .wide)) × (openingLength shape ≤ length (now out)) × (65536 ≤ length (now work)) ⌝ }
-    ensures { λ r. ⌜ r
-        ≡ openExecution (schemeOf shape) (now (key .entry)) (now (public .entry)) (now (salt .entry)) (now (root .entry)) (now (first .entry))
-        e second hidden (now (out .entry)) (now (work .entry)) .answer ⌝ }
-    ensures { λ _. ⌜ now (out .exit)
-        ≡ openExecution (schemeOf shape) (now (key .entry)) (now (public .entry)) (now (salt .entry)) (now (root .entry)) (now (first .entry))
-        e second hidden (now (out .entry)) (now (work .entry)) .output ⌝ }
-    ensures { λ _. ⌜ now (work .exit)
-        ≡ openExecution (schemeOf shape) (now (key .entry)) (now (public .entry)) (now (salt .entry)) (now (root .entry)) (now (first .entry))
-        e second hidden (now (out .entry)) (now (work .entry)) .work ⌝ }
+        × (second < 2 ^ (8 * shape .wide)) × (openingLength shape ≤ length (now out)) × (workLength ≤ length (now work)) ⌝ }
+    ensures { λ r. ⌜ made r (now (out .exit)) (now (work .exit))
+        ≡ madeAfter (inOrder (rangeTests shape e hidden second) (checkKey (schemeOf shape) (now (public .entry)) (now (key .entry)) Accepted))
+        (opening (schemeOf shape) (now (key .entry)) (now (public .entry)) (now (salt .entry)) (now (root .entry)) (now (first .entry)) e second hidden)
+        (now (out .entry)) (now (work .entry)) ⌝ }
 {
-    if e >= shape.executions {
-        return Answer::ExecutionRange;
-    }
-    if hidden >= shape.parties {
-        return Answer::HiddenPartyRange;
-    }
-    if second < (shape.m2 as u64) {
-        return Answer::SecondChallengeRange;
+    let refusal = lengths::ranges(shape, e, hidden, second);
+    match refusal {
+        Answer::Accepted => {}
+        _ => return refusal,
     }
     let n = shape.m1 * shape.m2;
     let mut given = [0u8; 200];
@@ -89,36 +84,23 @@ pub fn open_execution(
     work: &mut [u8],
 ) -> Answer
     requires { ⌜ Valid shape × (second < 2 ^ (8 * shape .wide)) ⌝ }
-    ensures { λ r. ⌜ r
+    ensures { λ r. ⌜ made r (now (out .exit)) (now (work .exit))
         ≡ openExecution (schemeOf shape) (now (key .entry)) (now (public .entry)) (now (salt .entry)) (now (root .entry)) (now (first .entry))
-        e second hidden (now (out .entry)) (now (work .entry)) .answer ⌝ }
-    ensures { λ _. ⌜ now (out .exit)
-        ≡ openExecution (schemeOf shape) (now (key .entry)) (now (public .entry)) (now (salt .entry)) (now (root .entry)) (now (first .entry))
-        e second hidden (now (out .entry)) (now (work .entry)) .output ⌝ }
-    ensures { λ _. ⌜ now (work .exit)
-        ≡ openExecution (schemeOf shape) (now (key .entry)) (now (public .entry)) (now (salt .entry)) (now (root .entry)) (now (first .entry))
-        e second hidden (now (out .entry)) (now (work .entry)) .work ⌝ }
+        e second hidden (now (out .entry)) (now (work .entry)) ⌝ }
 {
-    if key.len() != 16 {
-        return Answer::KeyLength;
-    }
-    if public.len() != 32 {
-        return Answer::PublicKeyLength;
-    }
-    if salt.len() != 32 {
-        return Answer::SaltLength;
-    }
-    if first.len() != shape.m1 * shape.wide {
-        return Answer::SaltLength;
-    }
-    if root.len() != 16 {
-        return Answer::SeedLength;
-    }
-    if out.len() < opening_sizes::opening_length(shape) {
-        return Answer::FileLength;
-    }
-    if work.len() < 65536 {
-        return Answer::WorkLength;
+    let refusal = lengths::open(
+        shape,
+        key.len(),
+        public.len(),
+        salt.len(),
+        root.len(),
+        first.len(),
+        out.len(),
+        work.len(),
+    );
+    match refusal {
+        Answer::Accepted => {}
+        _ => return refusal,
     }
     open_key(
         shape,

@@ -1,22 +1,9 @@
 // Two of the five calls, for document 01's set: "open one execution under given draws; check such an opening".
 use banquet::Answer;
-use banquet::Shape;
+use sets::Parties16;
 ghost use mathlib.Core.Path.{_≡_};
 ghost use Rattle.banquet.specs.Sets.{baseScheme};
-ghost use Rattle.banquet.specs.Calls.{openExecution, verifyOpening};
-
-// "with 16 parties, 41 executions, lift factor 4, m1 = 10 and m2 = 20"
-const BASE: Shape = Shape {
-    parties: 16,
-    depth: 4,
-    executions: 41,
-    wide: 4,
-    low: 0x8d,
-    y: 1084517114,
-    m1: 10,
-    m2: 20,
-    front: 16,
-};
+ghost use Rattle.banquet.specs.Calls.{checked, made, openExecution, verifyOpening};
 
 // Execution e below the root seed is opened: `first` is the first challenge's bytes, `second` the second challenge. Accepted, the output begins
 // with the opening, and the work slice's first 65,536 bytes are zero; refused, both are untouched.
@@ -32,17 +19,11 @@ pub fn open(
     output: &mut [u8],
     work: &mut [u8],
 ) -> Answer
-    ensures { λ r. ⌜ r
+    ensures { λ r. ⌜ made r (now (output .exit)) (now (work .exit))
         ≡ openExecution baseScheme (now (key .entry)) (now (public .entry)) (now (salt .entry)) (now (root .entry)) (now (first .entry))
-        e second hidden (now (output .entry)) (now (work .entry)) .answer ⌝ }
-    ensures { λ _. ⌜ now (output .exit)
-        ≡ openExecution baseScheme (now (key .entry)) (now (public .entry)) (now (salt .entry)) (now (root .entry)) (now (first .entry))
-        e second hidden (now (output .entry)) (now (work .entry)) .output ⌝ }
-    ensures { λ _. ⌜ now (work .exit)
-        ≡ openExecution baseScheme (now (key .entry)) (now (public .entry)) (now (salt .entry)) (now (root .entry)) (now (first .entry))
-        e second hidden (now (output .entry)) (now (work .entry)) .work ⌝ }
+        e second hidden (now (output .entry)) (now (work .entry)) ⌝ }
 {
-    let shape = BASE;
+    let shape = Parties16::SHAPE;
     open_execution::open_execution(
         shape,
         key,
@@ -60,9 +41,9 @@ pub fn open(
 
 // An opening is checked. After 13 to 15 and on success the work slice's first 65,536 bytes are zero; else it is untouched.
 pub fn verify_opening(public: &[u8], opening: &[u8], work: &mut [u8]) -> Answer
-    ensures { λ r. ⌜ r ≡ verifyOpening baseScheme (now (public .entry)) (now (opening .entry)) (now (work .entry)) .answer ⌝ }
-    ensures { λ _. ⌜ now (work .exit) ≡ verifyOpening baseScheme (now (public .entry)) (now (opening .entry)) (now (work .entry)) .work ⌝ }
+    ensures { λ r. ⌜ checked r (now (work .exit))
+        ≡ verifyOpening baseScheme (now (public .entry)) (now (opening .entry)) (now (work .entry)) ⌝ }
 {
-    let shape = BASE;
+    let shape = Parties16::SHAPE;
     check_opening::check(shape, public, opening, work)
 }

@@ -4,7 +4,7 @@ use mathlib.Core.List.{List, [], _∷_, _++_, append-nil}
 use Prim.Native.Nat.{ℕ}
 use native.Mathlib.Omega.{arith}
 use borrow.Author.Tests.{eq-eqb, ne-eqb}
-use lib.ListN.{length, take, drop, replicate, drop-of-length-le, length-drop}
+use lib.ListN.{length, take, drop, drop-of-length-le, length-drop}
 use lib.Seq.{take-all}
 use Rattle.banquet.specs.declared.Verdict.{Verdict}
 use Rattle.banquet.specs.declared.Answer.{Answer}
@@ -12,17 +12,11 @@ use Rattle.banquet.specs.declared.Answer.the-variants.{Accepted}
 use Rattle.banquet.specs.Sets.{baseScheme}
 use Rattle.banquet.specs.Answer.{outputAfter}
 use Rattle.banquet.specs.Key.{publicKeyOf}
-use Rattle.banquet.specs.Calls.{publicKeyAnswer, makePublicKey}
+use Rattle.banquet.specs.Calls.{written, writtenAfter, makePublicKey}
 use Rattle.banquet.specs.Card.{decodedLine, decodedLines, encodedLines, checkLines, refusalLine, printed}
 use Rattle.verdict.specs.Refusal.{Refusal}
 use Rattle.text_lines.specs.Form.{broken, in-form, form-exact}
-use Rattle.pairs.specs.Pairs.{pairKey, pairPlaintext, pairAnswer, pairLine}
-
--- the answer goes by the output's length alone
-public-key-length : (key plaintext d z : List ℕ) → length d ≡ length z
-    → publicKeyAnswer baseScheme key plaintext d ≡ publicKeyAnswer baseScheme key plaintext z
-unfolding publicKeyAnswer
-public-key-length key plaintext d z e = rw e
+use Rattle.pairs.specs.Pairs.{pairKey, pairPlaintext, pairAnswer, makePair, pairLine}
 
 -- one line
 one-line : (text : List ℕ) → decodedLines 1 text ≡ decodedLine 1 text
@@ -30,15 +24,13 @@ unfolding decodedLines decodedLine
 one-line text = append-nil _
 
 module _ (text public : List ℕ) where
-  -- what an answer leaves in the output
-  abbrev left : Answer → List ℕ
-  left a = outputAfter a (publicKeyOf baseScheme (pairKey baseScheme text) (pairPlaintext baseScheme text)) public
-
-  pub line-refused : {a : Answer} → a ≡ checkLines 0 (32 ∷ []) 1 text Accepted → Refusal a → (a ≡ pairAnswer baseScheme text) × (public ≡ left a)
+  pub line-refused : {a : Answer} → a ≡ checkLines 0 (32 ∷ []) 1 text Accepted → Refusal a → written a public ≡ makePair baseScheme text public
   unfolding pairAnswer
-  line-refused {a} e r =
+  line-refused e r =
       let b = broken (32 ∷ []) 0 1 text (subst Refusal e r) in
-      (e ∙ sym (b .answer _), sym (ap left e ∙ b .output _ public))
+      let file = publicKeyOf baseScheme (pairKey baseScheme text) (pairPlaintext baseScheme text) in
+      let answer : pairAnswer baseScheme text public ≡ checkLines 0 (32 ∷ []) 1 text Accepted = b .answer _ in
+      ap₂ written (e ∙ sym answer) (sym (b .output file public) ∙ ap (λ (x : Answer). outputAfter x file public) (sym answer))
 
   -- where it has its form: 32 bytes, of which each half is lent
   module _ (h : checkLines 0 (32 ∷ []) 1 text Accepted ≡ Accepted) where
@@ -55,23 +47,19 @@ module _ (text public : List ℕ) where
     second-half =
         take-all 16 (drop 16 (decodedLine 1 text)) (omega (arith, length-drop 16 (decodedLine 1 text), line-long, ap length (one-line text)))
 
-  pub line-accepted : (z pair : List ℕ) {a r : Answer} {out : List ℕ} → length public ≡ 32 → length z ≡ 32
-      → a ≡ checkLines 0 (32 ∷ []) 1 text Accepted → pair ≡ outputAfter a (decodedLines 1 text) z → a ≡ Accepted
-      → r ≡ makePublicKey baseScheme (take 16 pair) (take 16 (drop 16 pair)) public .answer
-      → out ≡ makePublicKey baseScheme (take 16 pair) (take 16 (drop 16 pair)) public .output
-      → (r ≡ pairAnswer baseScheme text) × (out ≡ left r)
+  pub line-accepted : (z pair : List ℕ) {a r : Answer} {out : List ℕ} → length z ≡ 32 → a ≡ checkLines 0 (32 ∷ []) 1 text Accepted
+      → pair ≡ outputAfter a (decodedLines 1 text) z → a ≡ Accepted
+      → written r out ≡ makePublicKey baseScheme (take 16 pair) (take 16 (drop 16 pair)) public
+      → written r out ≡ makePair baseScheme text public
   unfolding pairAnswer
-  line-accepted z pair {a} {r} {out} size long e p good er eo =
+  line-accepted z pair long e p good told =
       let h : checkLines 0 (32 ∷ []) 1 text Accepted ≡ Accepted = sym e ∙ good in
       let read : pair ≡ decodedLine 1 text = line-read h z pair long (p ∙ ap (λ (b : Answer). outputAfter b (decodedLines 1 text) z) good) in
       let first : take 16 pair ≡ pairKey baseScheme text = ap (take 16) read in
-      let second : take 16 (drop 16 pair) ≡ pairPlaintext baseScheme text = ap (λ (l : List ℕ). take 16 (drop 16 l)) read ∙ second-half h in (
-        er ∙ ap₂ (λ (k p : List ℕ). publicKeyAnswer baseScheme k p public) first second
-            ∙ public-key-length (pairKey baseScheme text) (pairPlaintext baseScheme text) public (replicate 32 0) size
-            ∙ sym (in-form (32 ∷ []) 0 1 text h _),
-        eo ∙ ap (λ (b : Answer). outputAfter b (publicKeyOf baseScheme (take 16 pair) (take 16 (drop 16 pair))) public) (sym er)
-            ∙ ap₂ (λ (k p : List ℕ). outputAfter r (publicKeyOf baseScheme k p) public) first second,
-      )
+      let second : take 16 (drop 16 pair) ≡ pairPlaintext baseScheme text = ap (λ (l : List ℕ). take 16 (drop 16 l)) read ∙ second-half h in
+      told ∙ ap₂ (λ (k p : List ℕ). makePublicKey baseScheme k p public) first second
+      ∙ ap (λ (b : Answer). writtenAfter b (publicKeyOf baseScheme (pairKey baseScheme text) (pairPlaintext baseScheme text)) public)
+      (sym (in-form (32 ∷ []) 0 1 text h _))
 
 -- ---- what is written
 

@@ -3,14 +3,14 @@
 use mathlib.Core.List.{List, [], _∷_}
 use Prim.Native.Nat.{ℕ, _+_}
 use lib.Dec.{eqb}
-use lib.ListN.{length, take, drop, replicate}
+use lib.ListN.{length, take, drop}
 use Rattle.slices.specs.Lists.{choose}
 use Rattle.banquet.specs.declared.Shape.{Shape}
 use Rattle.banquet.specs.declared.Verdict.{Verdict}
 use Rattle.banquet.specs.declared.Answer.{Answer}
-use Rattle.banquet.specs.Shape.{publicKeyLength}
 use Rattle.banquet.specs.Scheme.{Scheme}
-use Rattle.banquet.specs.Calls.{publicKeyAnswer}
+use Rattle.banquet.specs.Key.{publicKeyOf}
+use Rattle.banquet.specs.Calls.{Written, writtenAfter, publicKeyAnswer}
 use Rattle.banquet.specs.Card.{decodedLine, encodedLines, checkLines, refusalLine, printed}
 
 module _ (𝓢 : Scheme) where
@@ -27,8 +27,12 @@ module _ (𝓢 : Scheme) where
     abbrev pub pairPlaintext : List ℕ
     pairPlaintext = drop 16 (decodedLine 1 text)
 
-    unfoldable pub pairAnswer : Answer
-    pairAnswer = checkLines 0 pairSizes 1 text (publicKeyAnswer 𝓢 pairKey pairPlaintext (replicate (publicKeyLength (𝓢 .shape)) 0))
+    module _ (output : List ℕ) where
+      unfoldable pub pairAnswer : Answer
+      pairAnswer = checkLines 0 pairSizes 1 text (publicKeyAnswer 𝓢 pairKey pairPlaintext output)
+
+      abbrev pub makePair : Written
+      makePair = writtenAfter pairAnswer (publicKeyOf 𝓢 pairKey pairPlaintext) output
 
 -- what is written for line n: the public key, or the refusal, whose place is n where the line breaks its form
 unfoldable pub pairLine : Verdict → List ℕ → ℕ → List ℕ

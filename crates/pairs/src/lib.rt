@@ -5,18 +5,13 @@ ghost use mathlib.Core.Path.{_≡_};
 ghost use mathlib.Core.List.{_++_};
 ghost use Prim.Native.Nat.{_≤_};
 ghost use lib.ListN.{length, drop};
+ghost use Rattle.banquet.specs.Calls.{written};
 ghost use Rattle.banquet.specs.Sets.{baseScheme};
-ghost use Rattle.banquet.specs.Answer.{outputAfter};
-ghost use Rattle.banquet.specs.Key.{publicKeyOf};
-ghost use Rattle.pairs.specs.Pairs.{pairKey, pairPlaintext, pairAnswer, pairLine};
+ghost use Rattle.pairs.specs.Pairs.{makePair, pairLine};
 
 // The public key of a pair, or why there is none. A line that breaks its form is refused as 18, and leaves `public` untouched as every refusal does.
 pub fn make_pair(text: &[u8], public: &mut [u8]) -> Answer
-    requires { ⌜ length (now public) ≡ 32 ⌝ }
-    ensures { λ r. ⌜ r ≡ pairAnswer baseScheme (now (text .entry)) ⌝ }
-    ensures { λ r. ⌜ now (public .exit)
-        ≡ outputAfter r (publicKeyOf baseScheme (pairKey baseScheme (now (text .entry))) (pairPlaintext baseScheme (now (text .entry))))
-        (now (public .entry)) ⌝ }
+    ensures { λ r. ⌜ written r (now (public .exit)) ≡ makePair baseScheme (now (text .entry)) (now (public .entry)) ⌝ }
 {
     let sizes = [32usize; 1];
     let mut pair = [0u8; 32];

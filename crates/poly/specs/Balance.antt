@@ -14,29 +14,28 @@ use Rattle.poly.specs.Poly.{IsZero, padd, pmul, psum}
 use Rattle.poly.specs.Roots.{Root, AtMostRoots}
 use Rattle.poly.specs.Lagrange.{lagrange, interpolate}
 
+-- The values of S_j, T_j and P at the points. "S_j(k) = r_j times the lifted input of S-box j+10k for k below 20, and S_j(20) the
+-- extra point. T_j likewise with lifted inverses, without r_j." P's values below m2 are one public value a, and v k from m2 on.
+abbrev pub valuesS : {A : Type 0} → Ops A → ℕ → (ℕ → A) → (ℕ → ℕ → A) → (ℕ → A) → ℕ → ℕ → A
+valuesS O m2 r x s j k = at k m2 (s j) (O .mul (r j) (x j k))
+
+abbrev pub valuesT : {A : Type 0} → ℕ → (ℕ → ℕ → A) → (ℕ → A) → ℕ → ℕ → A
+valuesT m2 y t j k = at k m2 (t j) (y j k)
+
+abbrev pub valuesP : {A : Type 0} → ℕ → A → (ℕ → A) → ℕ → A
+valuesP m2 a v k = choose (ltb k m2) a (v k)
+
+-- "Row k balances when the sum over j of r_j times lifted input times lifted inverse equals the sum of the r."
+abbrev pub Balanced : {A : Type 0} → Ops A → ℕ → (ℕ → A) → (ℕ → ℕ → A) → (ℕ → ℕ → A) → ℕ → Type 0
+Balanced O m1 r x y k = sum O m1 (λ j. O .mul (O .mul (r j) (x j k)) (y j k)) ≡ sum O m1 r
+
 module _ {A : Type 0} (O : Ops A) (m1 m2 : ℕ) where
-  open Ops O using (add as _⊕_, mul as _⊗_, zero as 𝟘, one as 𝟙)
+  open Ops O using (mul as _⊗_, one as 𝟙)
 
-  infixl 60 _⊕_
   infixl 70 _⊗_
-  -- "Row k balances when the sum over j of r_j times lifted input times lifted inverse equals the sum of the r."
-  abbrev pub Balanced : (ℕ → A) → (ℕ → ℕ → A) → (ℕ → ℕ → A) → ℕ → Type 0
-  Balanced r x y k = sum O m1 (λ j. (r j ⊗ x j k) ⊗ y j k) ≡ sum O m1 r
-
   -- Every product of an input and its inverse is one.
   abbrev pub AllOne : (ℕ → ℕ → A) → (ℕ → ℕ → A) → Type 0
   AllOne x y = (j k : ℕ) → j < m1 → k < m2 → x j k ⊗ y j k ≡ 𝟙
-
-  -- The values of S_j, T_j and P at the points. "S_j(k) = r_j times the lifted input of S-box j+10k for k below 20, and S_j(20) the
-  -- extra point. T_j likewise with lifted inverses, without r_j." P's values below m2 are one public value a, and v k from m2 on.
-  abbrev pub valuesS : (ℕ → A) → (ℕ → ℕ → A) → (ℕ → A) → ℕ → ℕ → A
-  valuesS r x s j k = at k m2 (s j) (r j ⊗ x j k)
-
-  abbrev pub valuesT : (ℕ → ℕ → A) → (ℕ → A) → ℕ → ℕ → A
-  valuesT y t j k = at k m2 (t j) (y j k)
-
-  abbrev pub valuesP : A → (ℕ → A) → ℕ → A
-  valuesP a v k = choose (ltb k m2) a (v k)
 
   -- "The check polynomial is P, from its shares, plus the sum of S_j times T_j": from their values at m2 + 1 points for S_j and T_j, and at
   -- 2 m2 + 1 for P.
@@ -69,9 +68,9 @@ module _ {A : Type 0} (O : Ops A) (Elem : A → Type 0) (m1 m2 : ℕ) where
   -- out of balance"
   abbrev pub OneChallenge : (ℕ → A) → (ℕ → ℕ → A) → (ℕ → ℕ → A) → Type 0
   OneChallenge r x y =
-      (j : ℕ) × (j < m1) × ((k : ℕ) → k < m2 → Balanced O m1 m2 r x y k)
-      × ((a : A) → Elem a → a ≢ r j → (k : ℕ) × (k < m2) × ¬ (Balanced O m1 m2 (update r j a) x y k))
+      (j : ℕ) × (j < m1) × ((k : ℕ) → k < m2 → Balanced O m1 r x y k)
+      × ((a : A) → Elem a → a ≢ r j → (k : ℕ) × (k < m2) × ¬ (Balanced O m1 (update r j a) x y k))
 
-  -- "the check polynomial isn't zero, has at most 40 roots, and the second draw is one of them"
-  abbrev pub FewRoots : List A → A → Type 0
-  FewRoots c R = ¬ (IsZero O c) × AtMostRoots O Elem c (2 * m2) × Root O Elem c R
+-- "the check polynomial isn't zero, has at most 40 roots, and the second draw is one of them"
+abbrev pub FewRoots : {A : Type 0} → Ops A → (A → Type 0) → ℕ → List A → A → Type 0
+FewRoots O Elem m2 c R = ¬ (IsZero O c) × AtMostRoots O Elem c (2 * m2) × Root O Elem c R

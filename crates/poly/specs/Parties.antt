@@ -25,8 +25,8 @@ totals O n X j k = sum O n (λ i. X i j k)
 abbrev pub checkOf : {A : Type 0} → Ops A → (ℕ → A) → ℕ → ℕ → ℕ → (ℕ → A) → (ℕ → ℕ → ℕ → A) → (ℕ → ℕ → ℕ → A)
     → (ℕ → ℕ → A) → (ℕ → ℕ → A) → (ℕ → ℕ → A) → List A
 checkOf O pt n m1 m2 r X Y s t v =
-    checkPoly O m1 m2 pt (valuesS O m1 m2 r (totals O n X) (total O n s)) (valuesT O m1 m2 (totals O n Y) (total O n t))
-    (valuesP O m1 m2 (sum O m1 r) (total O n v))
+    checkPoly O m1 m2 pt (valuesS O m2 r (totals O n X) (total O n s)) (valuesT m2 (totals O n Y) (total O n t))
+    (valuesP m2 (sum O m1 r) (total O n v))
 
 -- Shares, by party first: inputs X and inverses Y by j and k, extra points s and t by j, v those of P at the points m2 to 2 m2.
 -- The opened shares c, a and b are right, and their sums pass the check.
@@ -40,9 +40,9 @@ pub record Execution {A : Type 0} (O : Ops A) (Elem : A → Type 0) (pt : ℕ �
     pub elem-s : (i j : ℕ) → i < n → j < m1 → Elem (s i j)
     pub elem-t : (i j : ℕ) → i < n → j < m1 → Elem (t i j)
     pub elem-v : (i k : ℕ) → i < n → m2 ≤ k → k ≤ 2 * m2 → Elem (v i k)
-    pub c-is : (i : ℕ) → i < n → c i ≡ lagrange O pt (suc (2 * m2)) (valuesP O m1 m2 (at i 0 (sum O m1 r) (O .zero)) (v i)) R
-    pub a-is : (i j : ℕ) → i < n → j < m1 → a i j ≡ lagrange O pt (suc m2) (valuesS O m1 m2 r (X i) (s i) j) R
-    pub b-is : (i j : ℕ) → i < n → j < m1 → b i j ≡ lagrange O pt (suc m2) (valuesT O m1 m2 (Y i) (t i) j) R
+    pub c-is : (i : ℕ) → i < n → c i ≡ lagrange O pt (suc (2 * m2)) (valuesP m2 (at i 0 (sum O m1 r) (O .zero)) (v i)) R
+    pub a-is : (i j : ℕ) → i < n → j < m1 → a i j ≡ lagrange O pt (suc m2) (valuesS O m2 r (X i) (s i) j) R
+    pub b-is : (i j : ℕ) → i < n → j < m1 → b i j ≡ lagrange O pt (suc m2) (valuesT m2 (Y i) (t i) j) R
     pub passes : sum O n c ≡ sum O m1 (λ j. O .mul (total O n a j) (total O n b j))
 
 module _ {A : Type 0} {O : Ops A} {Elem : A → Type 0} (F : BinaryField O Elem) {pt : ℕ → A} (n m1 m2 : ℕ) {r : ℕ → A}
@@ -52,13 +52,13 @@ module _ {A : Type 0} {O : Ops A} {Elem : A → Type 0} (F : BinaryField O Elem)
 
   infixl 70 _⊗_
   abbrev S : ℕ → ℕ → A
-  S = valuesS O m1 m2 r (totals O n X) (total O n s)
+  S = valuesS O m2 r (totals O n X) (total O n s)
 
   abbrev T : ℕ → ℕ → A
-  T = valuesT O m1 m2 (totals O n Y) (total O n t)
+  T = valuesT m2 (totals O n Y) (total O n t)
 
   abbrev P : ℕ → A
-  P = valuesP O m1 m2 (sum O m1 r) (total O n v)
+  P = valuesP m2 (sum O m1 r) (total O n v)
 
   -- The sum of right openings opens the sum.
   opened : (m : ℕ) (w : ℕ → A) (wᵢ : ℕ → ℕ → A) (u : ℕ → A) → ((k : ℕ) → sum O n (λ i. wᵢ i k) ≡ w k)
@@ -68,13 +68,13 @@ module _ {A : Type 0} {O : Ops A} {Elem : A → Type 0} (F : BinaryField O Elem)
   opened-P : lagrange O pt (suc (2 * m2)) P R ≡ sum O n c
   opened-P = opened (suc (2 * m2)) P _ c sums (o .c-is)
     where
-      sums : (k : ℕ) → sum O n (λ i. valuesP O m1 m2 (at i 0 (sum O m1 r) 𝟘) (v i) k) ≡ P k
+      sums : (k : ℕ) → sum O n (λ i. valuesP m2 (at i 0 (sum O m1 r) 𝟘) (v i) k) ≡ P k
       sums k = sum-choose O (ltb k m2) n _ _ ∙ ap (λ u. choose (ltb k m2) u (total O n v k)) (sum-at F n 0 (sum O m1 r) some-party)
 
   opened-S : (j : ℕ) → j < m1 → lagrange O pt (suc m2) (S j) R ≡ total O n a j
   opened-S j l = opened (suc m2) (S j) _ (λ i. a i j) sums (λ i h. o .a-is i j h l)
     where
-      sums : (k : ℕ) → sum O n (λ i. valuesS O m1 m2 r (X i) (s i) j k) ≡ S j k
+      sums : (k : ℕ) → sum O n (λ i. valuesS O m2 r (X i) (s i) j k) ≡ S j k
       sums k = sum-each O k m2 n _ _ ∙ ap (at k m2 (total O n s j)) (sum-mul F n (r j) _)
 
   opened-T : (j : ℕ) → j < m1 → lagrange O pt (suc m2) (T j) R ≡ total O n b j
@@ -94,5 +94,5 @@ module _ {A : Type 0} {O : Ops A} {Elem : A → Type 0} (F : BinaryField O Elem)
   -- one of few roots.
   pub execution-check : Points Elem pt (suc (2 * m2)) → Elem R
       → AllOne O m1 m2 (totals O n X) (totals O n Y) ⊎ (OneChallenge O Elem m1 m2 r (totals O n X) (totals O n Y)
-      ⊎ FewRoots O Elem m1 m2 (checkOf O pt n m1 m2 r X Y s t v) R)
+      ⊎ FewRoots O Elem m2 (checkOf O pt n m1 m2 r X Y s t v) R)
   execution-check pts e = product-check F m1 m2 pts vs R e passes-at

@@ -50,7 +50,7 @@ module _ {A : Type 0} {O : Ops A} {Elem : A → Type 0} (F : BinaryField O Elem)
       → ((j : ℕ) → j < m1 → Elem (s j))
       → ((j : ℕ) → j < m1 → Elem (t j))
       → ((k : ℕ) → m2 ≤ k → k ≤ 2 * m2 → Elem (v k))
-      → Values O Elem m1 m2 r x y (valuesS O m1 m2 r x s) (valuesT O m1 m2 y t) (valuesP O m1 m2 (sum O m1 r) v)
+      → Values O Elem m1 m2 r x y (valuesS O m2 r x s) (valuesT m2 y t) (valuesP m2 (sum O m1 r) v)
   values r x y s t v er ex ey es et ev = record {
     elem-r = er;
     elem-x = ex;
@@ -63,7 +63,7 @@ module _ {A : Type 0} {O : Ops A} {Elem : A → Type 0} (F : BinaryField O Elem)
     P-is = λ k h. rw (lt-ltb k m2 h);
   }
     where
-      at-P : (k : ℕ) → k ≤ 2 * m2 → Dec (k < m2) → Elem (valuesP O m1 m2 (sum O m1 r) v k)
+      at-P : (k : ℕ) → k ≤ 2 * m2 → Dec (k < m2) → Elem (valuesP m2 (sum O m1 r) v k)
       at-P k h (yes l) = rw (lt-ltb k m2 l) (elem-sum F m1 r er)
       at-P k h (no l) = rw (le-ltb k m2 (omega arith)) (ev k (omega arith) h)
 
@@ -163,12 +163,12 @@ module _ {A : Type 0} {O : Ops A} {Elem : A → Type 0} (F : BinaryField O Elem)
       ap₂ _⊗_ (lagrange-at F pt (S j) low k (omega arith) (vs .elem-S j k h (omega arith)) ∙ vs .S-is j k h l)
       (lagrange-at F pt (T j) low k (omega arith) (vs .elem-T j k h (omega arith)) ∙ vs .T-is j k h l))
 
-  rows : IsZero O c → (k : ℕ) → k < m2 → Balanced O m1 m2 r x y k
+  rows : IsZero O c → (k : ℕ) → k < m2 → Balanced O m1 r x y k
   rows z k l =
       sym (products-at k l) ∙ sym (eq-of-sum F _ _ (sym (eval-check (pt k)) ∙ eval-zero F c (pt k) z))
       ∙ lagrange-at F pt P pts k (omega arith) (vs .elem-P k (omega arith)) ∙ vs .P-is k l
 
-  one-challenge : ((k : ℕ) → k < m2 → Balanced O m1 m2 r x y k) → AllOne O m1 m2 x y ⊎ OneChallenge O Elem m1 m2 r x y
+  one-challenge : ((k : ℕ) → k < m2 → Balanced O m1 r x y k) → AllOne O m1 m2 x y ⊎ OneChallenge O Elem m1 m2 r x y
   one-challenge b = ⊎-elim (λ f. inl (λ j k l h. f j l k h)) (λ e. inr (bad e)) (all-below (λ j. dec-below (is-one j) m2) m1)
     where
       is-one : (j k : ℕ) → Dec (x j k ⊗ y j k ≡ 𝟙)
@@ -180,7 +180,7 @@ module _ {A : Type 0} {O : Ops A} {Elem : A → Type 0} (F : BinaryField O Elem)
           fixed : (k : ℕ) × (k < m2) × ¬ (x j k ⊗ y j k ≡ 𝟙) → OneChallenge O Elem m1 m2 r x y
           fixed (k, h, q) = (j, l, b, λ a ea ne. (k, h, λ e. ne (alone a ea e)))
             where
-              alone : (a : A) → Elem a → Balanced O m1 m2 (update r j a) x y k → a ≡ r j
+              alone : (a : A) → Elem a → Balanced O m1 (update r j a) x y k → a ≡ r j
               alone a ea e =
                   challenge-fixed F m1 r (λ i. x i k) (λ i. y i k) j a l (vs .elem-r j l) (vs .elem-x j k l h) (vs .elem-y j k l h) ea
                   q (b k h) e
@@ -188,10 +188,10 @@ module _ {A : Type 0} {O : Ops A} {Elem : A → Type 0} (F : BinaryField O Elem)
   -- Where the check passes at R: all products are one, or one part of the first challenge is the only value that balances the rows, or
   -- R is one of few roots.
   pub product-check : (R : A) → Elem R → lagrange O pt (suc (2 * m2)) P R ≡ products O m1 m2 pt S T R
-      → AllOne O m1 m2 x y ⊎ (OneChallenge O Elem m1 m2 r x y ⊎ FewRoots O Elem m1 m2 (checkPoly O m1 m2 pt S T P) R)
+      → AllOne O m1 m2 x y ⊎ (OneChallenge O Elem m1 m2 r x y ⊎ FewRoots O Elem m2 (checkPoly O m1 m2 pt S T P) R)
   product-check R e h = go (zero-or-not F c)
     where
-      go : IsZero O c ⊎ ¬ (IsZero O c) → AllOne O m1 m2 x y ⊎ (OneChallenge O Elem m1 m2 r x y ⊎ FewRoots O Elem m1 m2 c R)
+      go : IsZero O c ⊎ ¬ (IsZero O c) → AllOne O m1 m2 x y ⊎ (OneChallenge O Elem m1 m2 r x y ⊎ FewRoots O Elem m2 c R)
       go (inl z) = ⊎-elim inl (λ d. inr (inl d)) (one-challenge (rows z))
       go (inr nz) = inr (inr (nz, root-bound F c (2 * m2) elem-check length-check nz, (e, eval-check R ∙ sum-of-eq F _ _ h)))
 

@@ -1,18 +1,25 @@
 // What the card program prints of a text, for document 01's set.
 ghost use mathlib.Core.Path.{_≡_};
-ghost use mathlib.Core.List.{_++_};
-ghost use Prim.Native.Nat.{_≤_};
-ghost use lib.ListN.{length, drop};
 ghost use Rattle.banquet.specs.Card.{cardOutput};
 ghost use Rattle.banquet.specs.Sets.{baseScheme};
+ghost use Rattle.print_card.specs.Line.{asLine};
 
-// The line, at the front of `out`; returns its length.
-pub fn print_card(text: &[u8], out: &mut [u8]) -> usize
-    requires { ⌜ 30 ≤ length (now out) ⌝ }
-    ensures { λ r. ⌜ r ≡ length (cardOutput baseScheme (now (text .entry))) ⌝ }
-    ensures { λ r. ⌜ now (out .exit) ≡ cardOutput baseScheme (now (text .entry)) ++ drop r (now (out .entry)) ⌝ }
+// A line with its end, and zeros behind it; `length` is its own.
+pub struct Line {
+    pub bytes: [u8; 30],
+    pub length: usize,
+}
+
+// "It prints `accepted`, or `refused`, number, place, with single spaces and a line end."
+pub fn print_card(text: &[u8]) -> Line
+    ensures { λ r. ⌜ r ≡ asLine (cardOutput baseScheme (now (text .entry))) ⌝ }
 {
-    let mut work = [0u8; 65536];
+    let mut work = [0u8; banquet::WORK_LENGTH];
     let answer = card_text::verify_card(text, &mut work);
-    print_verdict::print_verdict(verdict::verdict(answer), out)
+    let mut bytes = [0u8; 30];
+    let length = print_verdict::print_verdict(verdict::verdict(answer), &mut bytes);
+    Line {
+        bytes: bytes,
+        length: length,
+    }
 }

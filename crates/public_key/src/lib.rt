@@ -1,23 +1,21 @@
 // The first of the five calls: "make a public key (from key and plaintext)".
 use banquet::Answer;
+use sets::Parties16;
 ghost use mathlib.Core.Path.{_≡_};
 ghost use Rattle.banquet.specs.Sets.{baseScheme};
-ghost use Rattle.banquet.specs.Calls.{makePublicKey};
+ghost use Rattle.banquet.specs.Calls.{written, makePublicKey};
 
 // "The first that applies is returned." Accepted, the output begins with the public key, and "Output beyond the stated length is untouched"; refused,
 // all of it is.
 pub fn make_public_key(key: &[u8], plaintext: &[u8], output: &mut [u8]) -> Answer
-    ensures { λ r. ⌜ r ≡ makePublicKey baseScheme (now (key .entry)) (now (plaintext .entry)) (now (output .entry)) .answer ⌝ }
-    ensures { λ _. ⌜ now (output .exit) ≡ makePublicKey baseScheme (now (key .entry)) (now (plaintext .entry)) (now (output .entry)) .output ⌝ }
+    ensures { λ r. ⌜ written r (now (output .exit))
+        ≡ makePublicKey baseScheme (now (key .entry)) (now (plaintext .entry)) (now (output .entry)) ⌝ }
 {
-    if key.len() != 16 {
-        return Answer::KeyLength;
-    }
-    if plaintext.len() != 16 {
-        return Answer::PublicKeyLength;
-    }
-    if output.len() < 32 {
-        return Answer::FileLength;
+    let shape = Parties16::SHAPE;
+    let refusal = lengths::public_key(shape, key.len(), plaintext.len(), output.len());
+    match refusal {
+        Answer::Accepted => {}
+        _ => return refusal,
     }
     let mut inputs = [0u8; 200];
     let ciphertext = cipher::encrypt(key, plaintext, &mut inputs);

@@ -3,7 +3,7 @@ use mathlib.Core.Path.{_≡_, sym, ap, _∙_}
 use mathlib.Core.Logic.{_⊎_, inl, inr}
 use mathlib.Core.Bool.{Bool, false}
 use mathlib.Core.List.{List, [], _∷_, _++_}
-use Prim.Native.Nat.{ℕ, zero, suc, _<_}
+use Prim.Native.Nat.{ℕ, zero, suc, _+_, _<_}
 use native.Mathlib.Decide.{decLt}
 use native.Mathlib.Omega.{arith}
 use lib.Dec.{eqb}
@@ -13,17 +13,17 @@ use Rattle.slices.specs.Lists.{choose}
 use Rattle.slices.specs.Bytes.{Bytes, nil-bytes}
 use Rattle.banquet.specs.declared.Answer.{Answer}
 use Rattle.banquet.specs.declared.Answer.the-variants.{Accepted}
-use Rattle.banquet.specs.Shape.{messageLimit, workLength}
+use Rattle.banquet.specs.Shape.{messageLimit, workLength, signatureLength}
 use Rattle.banquet.specs.Answer.{verdictOf}
 use Rattle.banquet.specs.Signature.{signature}
 use Rattle.banquet.specs.Calls.{signAnswer}
 use Rattle.banquet.specs.Card.{afterLine, lineOf, decodedLine, checkLines, cardText, acceptedWord, printed, cardOutput}
-use Rattle.banquet.specs.Sets.{baseScheme}
+use Rattle.banquet.specs.Sets.{base, baseScheme}
 use Rattle.hex.specs.Hex.{decoded-bytes}
 use Rattle.text_lines.specs.Form.{Broken, form-or-broken, form-split, form-length, form-most}
 use Rattle.text_lines.specs.Cut.{cut-answer}
 use Rattle.card_theorems.specs.BaseCards.{signed-card-accepted}
-use Rattle.requests.specs.Requests.{requestSizes, requestAnswer, requestOutput}
+use Rattle.requests.specs.Requests.{requestSizes, requestLength, requestAnswer, requestOutput}
 
 pub line-bytes : (n : ℕ) (text : List ℕ) → Bytes (decodedLine n text)
 unfolding decodedLine
@@ -32,13 +32,13 @@ line-bytes (suc zero) text = decoded-bytes (lineOf text)
 line-bytes (suc (suc n)) text = line-bytes (suc n) (afterLine text)
 
 abbrev sizes : List ℕ
-sizes = requestSizes baseScheme messageLimit
+sizes = requestSizes base messageLimit
 
 -- what is asked of a text in form
 abbrev asked : List ℕ → Answer
 asked text =
-    signAnswer baseScheme (decodedLine 1 text) (decodedLine 2 text) (decodedLine 3 text) (decodedLine 4 text) (decodedLine 5 text) (replicate 19776 0)
-    (replicate workLength 0)
+    signAnswer baseScheme (decodedLine 1 text) (decodedLine 2 text) (decodedLine 3 text) (decodedLine 4 text) (decodedLine 5 text)
+    (replicate (signatureLength base) 0) (replicate workLength 0)
 
 abbrev card : List ℕ → List ℕ
 card text =
@@ -52,7 +52,7 @@ unfolding requestAnswer requestOutput
 request-accepted text acc =
     ap (λ (a : Answer). cardOutput baseScheme (choose (eqb (verdictOf a .number) 0) (card text) (printed (verdictOf a)))) acc
     ∙ signed-card-accepted (decodedLine 1 text) (decodedLine 2 text) (decodedLine 3 text) (decodedLine 4 text) (decodedLine 5 text)
-    (replicate 19776 0) (replicate workLength 0) (line-bytes 1 text) (line-bytes 2 text) (line-bytes 3 text) (line-bytes 4 text)
+    (replicate (signatureLength base) 0) (replicate workLength 0) (line-bytes 1 text) (line-bytes 2 text) (line-bytes 3 text) (line-bytes 4 text)
     (form-split sizes 3 1 text (asked text) acc .1)
 
 refused-output : (text : List ℕ) → eqb (verdictOf (requestAnswer baseScheme text) .number) 0 ≡ false
@@ -60,19 +60,22 @@ refused-output : (text : List ℕ) → eqb (verdictOf (requestAnswer baseScheme 
 unfolding requestOutput
 refused-output text e = ap (λ (x : Bool). choose x (card text) (printed (verdictOf (requestAnswer baseScheme text)))) e
 
--- A request of 67,013 bytes is the longest: what stands behind the first 67,014 bytes of a text has no part in what is written for it.
-pub request-cut : (text : List ℕ) → requestOutput baseScheme (take 67014 text) ≡ requestOutput baseScheme text
-unfolding requestAnswer
-request-cut text = go (decLt (length text) 67014) (form-or-broken sizes 3 1 text)
-  where
-    same : requestAnswer baseScheme (take 67014 text) ≡ requestAnswer baseScheme text
-    same = cut-answer sizes 3 67014 text asked (omega arith)
+-- the longest request, and one byte more: what stands behind so many bytes of a text has no part in what is written for it
+abbrev pub readMost : ℕ
+readMost = requestLength base messageLimit + 1
 
-    go : Dec (length text < 67014) → (checkLines 3 sizes 1 text Accepted ≡ Accepted) ⊎ Broken (checkLines 3 sizes 1 text)
-        → requestOutput baseScheme (take 67014 text) ≡ requestOutput baseScheme text
-    go (yes l) f = ap (requestOutput baseScheme) (take-all 67014 text (omega arith))
+pub request-cut : (text : List ℕ) → requestOutput baseScheme (take readMost text) ≡ requestOutput baseScheme text
+unfolding requestAnswer
+request-cut text = go (decLt (length text) readMost) (form-or-broken sizes 3 1 text)
+  where
+    same : requestAnswer baseScheme (take readMost text) ≡ requestAnswer baseScheme text
+    same = cut-answer sizes 3 readMost text asked (omega arith)
+
+    go : Dec (length text < readMost) → (checkLines 3 sizes 1 text Accepted ≡ Accepted) ⊎ Broken (checkLines 3 sizes 1 text)
+        → requestOutput baseScheme (take readMost text) ≡ requestOutput baseScheme text
+    go (yes l) f = ap (requestOutput baseScheme) (take-all readMost text (omega arith))
     go (no l) (inl e) = absurd (omega (arith, form-length sizes 3 1 text e, form-most sizes 3 1 text e))
     go (no l) (inr b) =
         let e = ap (λ (a : Answer). eqb (verdictOf a .number) 0) (b .answer (asked text)) ∙ b .refused in
-        refused-output (take 67014 text) (ap (λ (a : Answer). eqb (verdictOf a .number) 0) same ∙ e) ∙ ap (λ (a : Answer). printed (verdictOf a)) same
-        ∙ sym (refused-output text e)
+        refused-output (take readMost text) (ap (λ (a : Answer). eqb (verdictOf a .number) 0) same ∙ e)
+        ∙ ap (λ (a : Answer). printed (verdictOf a)) same ∙ sym (refused-output text e)

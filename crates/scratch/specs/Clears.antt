@@ -1,10 +1,12 @@
 -- Which answers leave the work slice's front zero, and a call's contract from its answer. Assumes nothing.
-use mathlib.Core.Path.{_≡_, sym, ap, _∙_}
+use mathlib.Core.Path.{_≡_, ap, _∙_}
 use mathlib.Core.Bool.{Bool, true, false}
 use mathlib.Core.List.{List}
 use Prim.Native.Nat.{ℕ, zero, suc}
 use Rattle.banquet.specs.declared.Answer.{Answer}
 use Rattle.banquet.specs.Answer.{verdictOf, clears, require, each, cleared, workAfter}
+use Rattle.banquet.specs.Calls.{checked, checkedAfter}
+use Rattle.scratch.specs.Scratch.{Scratch, cleared-scratch}
 
 pub record Clears (a : Answer) : Type 0 where
   pub is : clears (verdictOf a) ≡ true
@@ -24,6 +26,6 @@ pub work-clears : {a : Answer} (w : List ℕ) → Clears a → cleared w ≡ wor
 unfolding workAfter
 work-clears w h = rw (h .is)
 
--- both halves of a call's contract from the answer's case
-pub called : (work : List ℕ) {whole a : Answer} {w : List ℕ} → whole ≡ a → w ≡ workAfter a work → (a ≡ whole) × (w ≡ workAfter whole work)
-called work e w = (sym e, w ∙ ap (λ a. workAfter a work) (sym e))
+-- a check that leaves such an answer, and clears the front of the work slice, which was scratch
+pub checked-cleared : {a : Answer} (work : List ℕ) {u w : List ℕ} → Clears a → Scratch work u → w ≡ cleared u → checked a w ≡ checkedAfter a work
+checked-cleared {a} work h s e = ap (checked a) (e ∙ cleared-scratch s ∙ work-clears work h)

@@ -17,7 +17,7 @@ use Rattle.banquet.specs.declared.Shape.{Shape}
 use Rattle.banquet.specs.Shape.{headSizes, frameSizes}
 use Rattle.banquet.specs.Sets.{schemeOf}
 use Rattle.banquet.specs.Hash.{secondHash}
-use Rattle.banquet.specs.Signature.{headPart, frameOf, framePart}
+use Rattle.banquet.specs.Signature.{signatureH1, frameOf, framePart}
 use Rattle.frames.specs.Frames.{frame-bytes}
 
 module _ (S : Shape) (s : List ℕ) where
@@ -40,8 +40,8 @@ module _ (S : Shape) (s : List ℕ) where
   -- ---- bytes
 
   module _ (b : Bytes s) where
-    pub h1-bytes : Bytes (headPart (schemeOf S) 1 s)
-    h1-bytes = field-bytes (headSizes S) 1 s b
+    pub h1-bytes : Bytes (signatureH1 s)
+    h1-bytes = field-bytes (headSizes) 1 s b
 
     pub offsets-bytes : (e : ℕ) → Bytes (offsetsOf e)
     offsets-bytes e = field-bytes (frameSizes S) 4 (frameOf (schemeOf S) s e) (frame-bytes S s e b)
@@ -53,14 +53,14 @@ module _ (S : Shape) (s : List ℕ) where
 
   -- h2 of a signature, from its own h1 and product offsets
   abbrev pub h2Of : List ℕ
-  h2Of = secondHash (schemeOf S) (headPart (schemeOf S) 1 s) offsetsOf
+  h2Of = secondHash (schemeOf S) (signatureH1 s) offsetsOf
 
-  -- where t has absorbed the byte 2, what the code writes `&s[32..64]`, and the offsets
-  pub second-hashed : {start t : Sponge} {h : List ℕ} → Bytes s → start ≡ absorbed empty (2 ∷ take (64 - 32) (drop 32 s))
+  -- where t has absorbed the byte 2, h1, and the offsets
+  pub second-hashed : {start t : Sponge} {h : List ℕ} → Bytes s → start ≡ absorbed empty (2 ∷ signatureH1 s)
       → t ≡ absorbed start (rows offsetsOf executions) → h ≡ squeezed (finished t) 32 → h ≡ h2Of
-  unfolding secondHash field
+  unfolding secondHash
   second-hashed b p q r =
-      let h1 = headPart (schemeOf S) 1 s in
+      let h1 = signatureH1 s in
       let all = rows offsetsOf executions in
       r ∙ output (2 ∷ (h1 ++ all)) 32 (cons-bytes (lit< tt) (append-bytes (h1-bytes b) (all-offsets-bytes b))) (joined (2 ∷ h1) all p q) refl
 

@@ -8,7 +8,7 @@ ghost use Rattle.stream.specs.Stream.{absorbed};
 ghost use Rattle.banquet.specs.Shape.{signatureLength};
 ghost use Rattle.banquet.specs.Sets.{schemeOf};
 ghost use Rattle.banquet.specs.Hash.{secondHash};
-ghost use Rattle.banquet.specs.Signature.{headPart, frameOf, framePart};
+ghost use Rattle.banquet.specs.Signature.{signatureH1, frameOf, framePart};
 ghost use Rattle.sets.specs.Valid.{Valid};
 
 // The product offsets of all executions.
@@ -31,10 +31,10 @@ fn absorb_products(shape: Shape, s: &[u8], start: Sponge) -> Sponge
 pub fn second_hash(shape: Shape, s: &[u8]) -> [u8; 32]
     requires { ⌜ Valid shape × (length (now s) ≡ signatureLength shape) ⌝ }
     ensures { λ r. ⌜ r
-        ≡ secondHash (schemeOf shape) (headPart (schemeOf shape) 1 (now (s .entry)))
+        ≡ secondHash (schemeOf shape) (signatureH1 (now (s .entry)))
         (λ e. framePart (schemeOf shape) (frameOf (schemeOf shape) (now (s .entry)) e) 4) ⌝ }
 {
-    let start = hash_inputs::tagged(2, &s[32..64]);
+    let start = hash_inputs::tagged(2, heads::h1(s));
     let t = absorb_products(shape, s, start);
     let mut h = [0u8; 32];
     hash_inputs::output(t, &mut h);

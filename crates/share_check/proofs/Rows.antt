@@ -5,8 +5,7 @@ use mathlib.Core.List.{List, _++_}
 use Prim.Native.Nat.{ℕ, _+_, _*_, _/_, _-_, _^_, _<_, _≤_}
 use native.Mathlib.Omega.{arith}
 use lib.Dec.{eqb}
-use lib.ListN.{length, take, drop, length-append, length-take, length-drop}
-use lib.Seq.{take-all}
+use lib.ListN.{length, take, drop, length-append}
 use Rattle.slices.specs.Lists.{rows, row, same, sumXor}
 use Rattle.slices.specs.Tab.{length-rows, row-of-rows}
 use Rattle.slices.specs.Sums.{sumXor-cong}
@@ -20,6 +19,7 @@ use Rattle.banquet.specs.Shape.{transcriptSizes}
 use Rattle.banquet.specs.Answer.{require}
 use Rattle.banquet.specs.Sets.{schemeOf}
 use Rattle.banquet.specs.Hash.{tape}
+use Rattle.banquet.specs.Key.{frontOf, ciphertextOf}
 use Rattle.banquet.specs.Execution.{challenge, outputShare}
 use Rattle.banquet.specs.Opening.{transcriptPart, committedOf, sharesHold, outputsHold, productHolds, executionOf, tapeUnder, checkShares}
 use Rattle.theorems.specs.Keys.{sized-front}
@@ -41,28 +41,17 @@ module _ {S : Shape} {publicKey t : List ℕ} {e second : ℕ} (g : Given S publ
       let z = sized-field (transcriptSizes S) 8 (g .stated) in
       rw (g .second-is) (number-lt (transcriptPart (schemeOf S) t 8) wide (z .bytes) (omega (arith, z .size)))
 
-  -- the public key's halves
-  pub key-size : length publicKey ≡ 32
-  key-size = omega (arith, g .key .size, g .valid .plaintext)
-
-  pub front-size : length (take 16 publicKey) ≡ S .front
-  front-size = rw length-take (omega (arith, key-size, g .valid .plaintext))
-
-  pub ciphertext-is : take 16 (drop 16 publicKey) ≡ drop (S .front) publicKey
-  ciphertext-is =
-      rw (g .valid .plaintext) (take-all 16 (drop 16 publicKey) (omega (arith, length-drop 16 publicKey, key-size)))
-
   -- ---- the rows worked out
 
   pub made-right : {sizes salt front key inverse first product out : List ℕ} (seeds : List ℕ) → sizes ≡ transcriptSizes S
-      → salt ≡ field sizes 0 t → front ≡ take 16 publicKey → key ≡ field sizes 4 t → inverse ≡ field sizes 5 t → first ≡ field sizes 6 t
+      → salt ≡ field sizes 0 t → front ≡ frontOf (schemeOf S) publicKey → key ≡ field sizes 4 t → inverse ≡ field sizes 5 t → first ≡ field sizes 6 t
       → product ≡ field sizes 7 t
       → out ≡ rows (λ i. shareRow (schemeOf S) (committed front key inverse) (challenge (schemeOf S) first product second) i
       (tape (schemeOf S) salt e i (row 16 i seeds))) parties
       → out ≡ rows (madeRow S publicKey t seeds) parties
   unfolding madeRow
   made-right seeds z h0 hf h4 h5 h6 h7 is =
-      is ∙ rw (h0, hf, h4, h5, h6, h7, z, g .e-is, g .second-is, g .valid .plaintext) refl
+      is ∙ rw (h0, hf, h4, h5, h6, h7, z, g .e-is, g .second-is) refl
 
   fits : Fits (schemeOf S) (laws (g .valid)) (committedOf (schemeOf S) publicKey t)
   fits = record {
@@ -104,22 +93,21 @@ module _ {S : Shape} {publicKey t : List ℕ} {e second : ℕ} (g : Given S publ
     unfolding madeRow
     row-tested i l = ap₂ same (made-row i l) (stated-row i l) ∙ row-same (g .valid) (g .stated) (g .key) i l (row 16 i seeds)
 
-    sums-checked : sumsAnswer S (take 16 (drop 16 publicKey)) e
+    sums-checked : sumsAnswer S (ciphertextOf (schemeOf S) publicKey) e
         (sumXor parties (λ i. row (total (rowSizes S)) i (rows (statedRow S t) parties)))
         ≡ require (outputsHold (schemeOf S) publicKey t) (ShareDiffers parties)
-        (require (productHolds (schemeOf S) publicKey t) (ProductDiffers (executionOf (schemeOf S) t)) Accepted)
+        (require (productHolds (schemeOf S) t) (ProductDiffers (executionOf (schemeOf S) t)) Accepted)
     unfolding sumsAnswer
     sums-checked =
         rw (
           sumXor-cong parties stated-row,
-          ciphertext-is,
           sums-outputs (g .valid) (g .stated),
-          sums-product (g .valid) (g .stated) publicKey,
+          sums-product (g .valid) (g .stated),
           g .e-is,
         ) refl
 
     rows-checked : (hidden : ℕ)
-        → rowsAnswer S (take 16 (drop 16 publicKey)) e hidden (rows made parties) (rows (statedRow S t) parties)
+        → rowsAnswer S (ciphertextOf (schemeOf S) publicKey) e hidden (rows made parties) (rows (statedRow S t) parties)
         ≡ checkShares (schemeOf S) publicKey t hidden (λ i. row 16 i seeds)
     unfolding rowsAnswer checkShares
     rows-checked hidden = each-cong ShareDiffers parties (λ i l. ap (eqb i hidden ||_) (row-tested i l)) sums-checked
@@ -135,11 +123,12 @@ module _ {S : Shape} {publicKey t : List ℕ} {e second : ℕ} (g : Given S publ
       read-lengths = (ap length (read .0) ∙ made-length, ap length (read .1) ∙ stated-length)
 
       pub halves-checked : (hidden : ℕ) {r : Answer}
-          → r ≡ rowsAnswer S (take 16 (drop 16 publicKey)) e hidden (take (length w - length w / 2) (drop (length w / 2) w))
-          (take (length w / 2 - 0) w)
+          {c : List ℕ} → c ≡ ciphertextOf (schemeOf S) publicKey
+          → r ≡ rowsAnswer S c e hidden (take (length w - length w / 2) (drop (length w / 2) w)) (take (length w / 2 - 0) w)
           → r ≡ checkShares (schemeOf S) publicKey t hidden (λ i. row 16 i seeds)
-      halves-checked hidden h =
-          h ∙ ap₂ (rowsAnswer S (take 16 (drop 16 publicKey)) e hidden) (read .0) (read .1) ∙ rows-checked hidden
+      halves-checked hidden is h =
+          h ∙ ap₂ (rowsAnswer S _ e hidden) (read .0) (read .1)
+          ∙ ap (λ c. rowsAnswer S c e hidden (rows made parties) (rows (statedRow S t) parties)) is ∙ rows-checked hidden
 
 -- ---- the rows compared
 

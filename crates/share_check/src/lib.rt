@@ -39,7 +39,7 @@ fn fill_rows(
         fields::field(sizes, 0, transcript),
         e,
         seeds,
-        &public[0..16],
+        sets::front(shape, public),
         fields::field(sizes, 4, transcript),
         fields::field(sizes, 5, transcript),
         fields::field(sizes, 6, transcript),
@@ -95,7 +95,7 @@ pub fn check_rows(
     let half = whole / 2;
     compare_rows(
         shape,
-        &public[16..32],
+        sets::ciphertext(shape, public),
         e,
         hidden,
         &rows[half..whole],

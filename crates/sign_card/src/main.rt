@@ -4,18 +4,22 @@ use libc::STDIN_FILENO;
 use libc::STDOUT_FILENO;
 ghost use mathlib.Core.Path.{_≡_};
 ghost use lib.ListN.{length};
+ghost use Rattle.banquet.specs.Shape.{messageLimit};
+ghost use Rattle.banquet.specs.Sets.{base};
+ghost use Rattle.card_theorems.specs.Cards.{cardLength};
+ghost use Rattle.requests.specs.Accepted.{readMost};
 
-// Room for the longest request, of 67,013 bytes, and one byte more: of a longer text no more need be read.
-fn request_room() -> [u8; 67014]
-    ensures { λ r. ⌜ 67014 ≡ length r ⌝ }
+// Room for the longest request, and one byte more: of a longer text no more need be read.
+fn request_room() -> [u8; requests::TEXT + 1]
+    ensures { λ r. ⌜ readMost ≡ length r ⌝ }
 {
-    [0; 67014]
+    [0; requests::TEXT + 1]
 }
 
-fn card_room() -> [u8; 105196]
-    ensures { λ r. ⌜ 105196 ≡ length r ⌝ }
+fn card_room() -> [u8; card_sizes::TEXT]
+    ensures { λ r. ⌜ cardLength base messageLimit ≡ length r ⌝ }
 {
-    [0; 105196]
+    [0; card_sizes::TEXT]
 }
 
 fn main() {

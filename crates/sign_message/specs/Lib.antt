@@ -1,2 +1,2 @@
--- The call that signs a message, case by case.
-pub mod Answers
+-- What signing is given.
+pub mod Lengths

@@ -4,13 +4,16 @@ use banquet::Shape;
 ghost use mathlib.Core.Path.{_≡_};
 ghost use Prim.Native.Nat.{_≤_};
 ghost use lib.ListN.{length};
-ghost use Rattle.banquet.specs.Shape.{signatureLength};
+ghost use Rattle.banquet.specs.declared.Answer.the-variants.{Accepted};
+ghost use Rattle.banquet.specs.Shape.{workLength, signatureLength};
 ghost use Rattle.banquet.specs.Sets.{schemeOf};
-ghost use Rattle.banquet.specs.Calls.{sign};
+ghost use Rattle.banquet.specs.Key.{checkKey};
+ghost use Rattle.banquet.specs.Signature.{signature};
+ghost use Rattle.banquet.specs.Calls.{made, madeAfter, sign};
 ghost use Rattle.sets.specs.Valid.{Valid};
-ghost use Rattle.sign_message.specs.Answers.{Lengths};
+ghost use Rattle.sign_message.specs.Lengths.{Lengths};
 
-// The call where lengths are right: 11 and 12, and else the signature.
+// Numbers 11 and 12, and else the signature.
 fn sign_key(
     shape: Shape,
     key: &[u8],
@@ -21,17 +24,12 @@ fn sign_key(
     out: &mut [u8],
     work: &mut [u8],
 ) -> Answer
-    requires { ⌜ Lengths shape (now key) (now public) (now message) (now salt) (now seeds)
-        × (signatureLength shape ≤ length (now out)) × (65536 ≤ length (now work)) ⌝ }
-    ensures { λ r. ⌜ r
-        ≡ sign (schemeOf shape) (now (key .entry)) (now (public .entry)) (now (message .entry)) (now (salt .entry)) (now (seeds .entry))
-        (now (out .entry)) (now (work .entry)) .answer ⌝ }
-    ensures { λ _. ⌜ now (out .exit)
-        ≡ sign (schemeOf shape) (now (key .entry)) (now (public .entry)) (now (message .entry)) (now (salt .entry)) (now (seeds .entry))
-        (now (out .entry)) (now (work .entry)) .output ⌝ }
-    ensures { λ _. ⌜ now (work .exit)
-        ≡ sign (schemeOf shape) (now (key .entry)) (now (public .entry)) (now (message .entry)) (now (salt .entry)) (now (seeds .entry))
-        (now (out .entry)) (now (work .entry)) .work ⌝ }
+    requires { ⌜ Lengths shape (now key) (now public) (now salt) (now seeds)
+        × (signatureLength shape ≤ length (now out)) × (workLength ≤ length (now work)) ⌝ }
+    ensures { λ r. ⌜ made r (now (out .exit)) (now (work .exit))
+        ≡ madeAfter (checkKey (schemeOf shape) (now (public .entry)) (now (key .entry)) Accepted)
+        (signature (schemeOf shape) (now (key .entry)) (now (public .entry)) (now (message .entry)) (now (salt .entry)) (now (seeds .entry)))
+        (now (out .entry)) (now (work .entry)) ⌝ }
 {
     let n = shape.m1 * shape.m2;
     let mut given = [0u8; 200];
@@ -72,36 +70,23 @@ pub fn sign_message(
     work: &mut [u8],
 ) -> Answer
     requires { ⌜ Valid shape ⌝ }
-    ensures { λ r. ⌜ r
+    ensures { λ r. ⌜ made r (now (out .exit)) (now (work .exit))
         ≡ sign (schemeOf shape) (now (key .entry)) (now (public .entry)) (now (message .entry)) (now (salt .entry)) (now (seeds .entry))
-        (now (out .entry)) (now (work .entry)) .answer ⌝ }
-    ensures { λ _. ⌜ now (out .exit)
-        ≡ sign (schemeOf shape) (now (key .entry)) (now (public .entry)) (now (message .entry)) (now (salt .entry)) (now (seeds .entry))
-        (now (out .entry)) (now (work .entry)) .output ⌝ }
-    ensures { λ _. ⌜ now (work .exit)
-        ≡ sign (schemeOf shape) (now (key .entry)) (now (public .entry)) (now (message .entry)) (now (salt .entry)) (now (seeds .entry))
-        (now (out .entry)) (now (work .entry)) .work ⌝ }
+        (now (out .entry)) (now (work .entry)) ⌝ }
 {
-    if key.len() != 16 {
-        return Answer::KeyLength;
-    }
-    if public.len() != 32 {
-        return Answer::PublicKeyLength;
-    }
-    if 32768 < message.len() {
-        return Answer::MessageLength;
-    }
-    if salt.len() != 32 {
-        return Answer::SaltLength;
-    }
-    if seeds.len() != shape.executions * 16 {
-        return Answer::SeedLength;
-    }
-    if out.len() < frames::signature_length(shape) {
-        return Answer::FileLength;
-    }
-    if work.len() < 65536 {
-        return Answer::WorkLength;
+    let refusal = lengths::sign(
+        shape,
+        key.len(),
+        public.len(),
+        message.len(),
+        salt.len(),
+        seeds.len(),
+        out.len(),
+        work.len(),
+    );
+    match refusal {
+        Answer::Accepted => {}
+        _ => return refusal,
     }
     sign_key(shape, key, public, message, salt, seeds, out, work)
 }

@@ -1,30 +1,16 @@
 // Two of the five calls, for document 01's set: "seal; check a seal".
 use banquet::Answer;
-use banquet::Shape;
+use sets::Parties16;
 ghost use mathlib.Core.Path.{_≡_};
 ghost use Rattle.banquet.specs.Sets.{baseScheme};
-ghost use Rattle.banquet.specs.Calls.{sign as signOf, verify as verifyOf};
-
-// "with 16 parties, 41 executions, lift factor 4, m1 = 10 and m2 = 20"
-const BASE: Shape = Shape {
-    parties: 16,
-    depth: 4,
-    executions: 41,
-    wide: 4,
-    low: 0x8d,
-    y: 1084517114,
-    m1: 10,
-    m2: 20,
-    front: 16,
-};
+ghost use Rattle.banquet.specs.Calls.{checked, made, sign as signOf, verify as verifyOf};
 
 // A signature is checked. After 15 to 17 and on success the work slice's first 65,536 bytes are zero; else it is untouched.
 pub fn verify(public: &[u8], message: &[u8], signature: &[u8], work: &mut [u8]) -> Answer
-    ensures { λ r. ⌜ r ≡ verifyOf baseScheme (now (public .entry)) (now (message .entry)) (now (signature .entry)) (now (work .entry)) .answer ⌝ }
-    ensures { λ _. ⌜ now (work .exit)
-        ≡ verifyOf baseScheme (now (public .entry)) (now (message .entry)) (now (signature .entry)) (now (work .entry)) .work ⌝ }
+    ensures { λ r. ⌜ checked r (now (work .exit))
+        ≡ verifyOf baseScheme (now (public .entry)) (now (message .entry)) (now (signature .entry)) (now (work .entry)) ⌝ }
 {
-    let shape = BASE;
+    let shape = Parties16::SHAPE;
     check_signature::check(shape, public, message, signature, work)
 }
 
@@ -39,16 +25,10 @@ pub fn sign(
     out: &mut [u8],
     work: &mut [u8],
 ) -> Answer
-    ensures { λ r. ⌜ r
+    ensures { λ r. ⌜ made r (now (out .exit)) (now (work .exit))
         ≡ signOf baseScheme (now (key .entry)) (now (public .entry)) (now (message .entry)) (now (salt .entry)) (now (seeds .entry))
-        (now (out .entry)) (now (work .entry)) .answer ⌝ }
-    ensures { λ _. ⌜ now (out .exit)
-        ≡ signOf baseScheme (now (key .entry)) (now (public .entry)) (now (message .entry)) (now (salt .entry)) (now (seeds .entry))
-        (now (out .entry)) (now (work .entry)) .output ⌝ }
-    ensures { λ _. ⌜ now (work .exit)
-        ≡ signOf baseScheme (now (key .entry)) (now (public .entry)) (now (message .entry)) (now (salt .entry)) (now (seeds .entry))
-        (now (out .entry)) (now (work .entry)) .work ⌝ }
+        (now (out .entry)) (now (work .entry)) ⌝ }
 {
-    let shape = BASE;
+    let shape = Parties16::SHAPE;
     sign_message::sign_message(shape, key, public, message, salt, seeds, out, work)
 }

@@ -10,6 +10,7 @@ use Rattle.shake.specs.Shake128.{shake128}
 use Rattle.banquet.specs.declared.Shape.{Shape}
 use Rattle.banquet.specs.Shape.{tapeSizes, frameSizes}
 use Rattle.banquet.specs.Sets.{schemeOf}
+use Rattle.banquet.specs.Key.{frontOf}
 use Rattle.banquet.specs.Hash.{commitment, firstChallenge, secondChallenge}
 use Rattle.banquet.specs.Tree.{siblingSeeds}
 use Rattle.banquet.specs.Execution.{Committed, Challenge, challenge}
@@ -47,7 +48,7 @@ use Rattle.signing.specs.Sums.{opened-rows, opened-sums}
 use Rattle.signing.specs.Own.{own-long}
 use Rattle.signing.specs.Frames.{begun-row, held-products, field-key, field-inverses, field-products, opened-tail, assembled}
 use Rattle.signing.specs.Kept.{sums-long}
-use Rattle.signing.specs.Witness.{Witness, witness-long, key-is, inverses-are, front-is, offsets-are, offsets-long}
+use Rattle.signing.specs.Witness.{Witness, witness-long, key-is, inverses-are, offsets-are, offsets-long}
 
 module _ {S : Shape} {key publicKey inputs inverses witness : List ℕ} (w : Witness S key publicKey inputs inverses witness) (v : Valid S)
     (message salt roots : List ℕ) (e : ℕ) (d : List ℕ) (long : length d ≡ total (frameSizes S)) where
@@ -63,7 +64,7 @@ module _ {S : Shape} {key publicKey inputs inverses witness : List ℕ} (w : Wit
   own-size = own-long v witness salt root e (witness-long v w)
 
   abbrev x : Committed
-  x = signerCommitted (schemeOf S) key publicKey message salt roots e
+  x = signerCommitted (schemeOf S) key publicKey salt roots e
 
   -- ---- under the first challenge
 
@@ -101,19 +102,19 @@ module _ {S : Shape} {key publicKey inputs inverses witness : List ℕ} (w : Wit
   abbrev tapes : ℕ → List ℕ
   tapes = tapeOf (schemeOf S) salt root e
 
-  shares : frameShares S (take 16 publicKey) salt root e first second held ≡ (λ i. shareRow (schemeOf S) x c i (tapes i))
+  shares : frameShares S (frontOf (schemeOf S) publicKey) salt root e first second held ≡ (λ i. shareRow (schemeOf S) x c i (tapes i))
   unfolding frameShares
   shares =
-      ap (frameShares S (take 16 publicKey) salt root e first second) held-is
+      ap (frameShares S (frontOf (schemeOf S) publicKey) salt root e first second) held-is
       ∙ (λ j i.
       shareRow (schemeOf S)
-      (committed (front-is v w message salt roots e j)
+      (committed (frontOf (schemeOf S) publicKey)
       ((field-key v d own offsets long own-size offsets-size ∙ key-is v w message salt roots e) j)
       ((field-inverses v d own offsets long own-size offsets-size ∙ inverses-are v w message salt roots e) j))
       (challenge (schemeOf S) first (field-products v d own offsets long own-size offsets-size j) second) i (tapes i))
 
   abbrev sums : List ℕ
-  sums = drop 16 (sumXor parties (frameShares S (take 16 publicKey) salt root e first second held))
+  sums = drop 16 (sumXor parties (frameShares S (frontOf (schemeOf S) publicKey) salt root e first second held))
 
   abbrev C : ℕ
   C = signerC (schemeOf S) key publicKey message salt roots e
@@ -127,18 +128,18 @@ module _ {S : Shape} {key publicKey inputs inverses witness : List ℕ} (w : Wit
   sums-are : sums ≡ openedBytes (schemeOf S) C A B
   sums-are = ap (λ f. drop 16 (sumXor parties f)) shares ∙ opened-sums S x c tapes (v .some)
 
-  pub third-part : openedPart S (take 16 publicKey) salt root e first second held ≡ signerH3Part (schemeOf S) key publicKey message salt roots e
+  pub third-part : openedPart S (frontOf (schemeOf S) publicKey) salt root e first second held ≡ signerH3Part (schemeOf S) key publicKey message salt roots e
   unfolding openedPart signerH3Part h3Part
   third-part = ap₂ _++_ sums-are (ap (λ f. rows (λ i. drop 16 (f i)) parties) shares ∙ opened-rows S x c tapes)
 
   abbrev opened : List ℕ
-  opened = openedFrame S (take 16 publicKey) salt root e first second held
+  opened = openedFrame S (frontOf (schemeOf S) publicKey) salt root e first second held
 
   tail : drop (offsetsAt S) opened ≡ (x .keyOffset ++ x .inverseOffsets) ++ (offsets ++ openedBytes (schemeOf S) C A B)
   unfolding openedFrame
   tail =
       ap (λ f. drop (offsetsAt S) (put f (offsetsAt S + witnessLength S + 21 * wide) sums)) held-is
-      ∙ opened-tail v d own offsets long own-size offsets-size sums (sums-long v (take 16 publicKey) salt root e first second held)
+      ∙ opened-tail v d own offsets long own-size offsets-size sums (sums-long v (frontOf (schemeOf S) publicKey) salt root e first second held)
       ∙ (λ j. (key-is v w message salt roots e j ++ inverses-are v w message salt roots e j) ++ (offsets ++ sums-are j))
 
   -- ---- when the hidden party is known

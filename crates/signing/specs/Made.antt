@@ -10,6 +10,7 @@ use Rattle.shake.specs.Shake128.{shake128}
 use Rattle.banquet.specs.declared.Shape.{Shape}
 use Rattle.banquet.specs.Shape.{firstChallengeLength, frameSizes}
 use Rattle.banquet.specs.Sets.{schemeOf}
+use Rattle.banquet.specs.Key.{frontOf}
 use Rattle.banquet.specs.Hash.{secondHash, thirdHash, firstChallenge, secondChallenge, hiddenParty}
 use Rattle.banquet.specs.Signature.{signerH1, signerOffsets, signerH2, signerH3Part, signerH3, signerFrame}
 use Rattle.theorems.specs.Recomputed.{firstHash-cong, secondHash-cong, thirdHash-cong}
@@ -97,24 +98,24 @@ module _ {S : Shape} (v : Valid S)
   third-made =
       h3-is
       ∙ thirdHash-cong (schemeOf S) (laws v) h2
-      (λ e l. (λ j. openedPart S (take 16 publicKey) salt (row 16 e roots) e (first-row e j) (secondChallenge (schemeOf S) (second-made j) e)
+      (λ e l. (λ j. openedPart S (frontOf (schemeOf S) publicKey) salt (row 16 e roots) e (first-row e j) (secondChallenge (schemeOf S) (second-made j) e)
       (held-row e l j))
       ∙ third-part w v message salt roots e (row n e frames) (long e l))
       ∙ ap (λ h. thirdHash (schemeOf S) h (signerH3Part (schemeOf S) key publicKey message salt roots)) second-made
 
   abbrev openOf : ℕ → List ℕ
   openOf e =
-      openedFrame S (take 16 publicKey) salt (row 16 e roots) e (firstChallenge (schemeOf S) H1 e) (secondChallenge (schemeOf S) H2 e) (heldOf e)
+      openedFrame S (frontOf (schemeOf S) publicKey) salt (row 16 e roots) e (firstChallenge (schemeOf S) H1 e) (secondChallenge (schemeOf S) H2 e) (heldOf e)
 
   open-row : (e : ℕ) → e < executions → row n e opened ≡ openOf e
   open-row e l =
       ap (row n e)
       (opened-is
       ∙ rows-cong executions
-      (λ e l j. openedFrame S (take 16 publicKey) salt (row 16 e roots) e (first-row e j) (secondChallenge (schemeOf S) (second-made j) e)
+      (λ e l j. openedFrame S (frontOf (schemeOf S) publicKey) salt (row 16 e roots) e (first-row e j) (secondChallenge (schemeOf S) (second-made j) e)
       (held-row e l j)))
       ∙ row-of-rows n openOf executions
-      (λ e l. opened-kept v (take 16 publicKey) salt (row 16 e roots) e (firstChallenge (schemeOf S) H1 e) (secondChallenge (schemeOf S) H2 e)
+      (λ e l. opened-kept v (frontOf (schemeOf S) publicKey) salt (row 16 e roots) e (firstChallenge (schemeOf S) H1 e) (secondChallenge (schemeOf S) H2 e)
       (heldOf e) (held-size e l)) e l
 
   -- ---- when the hidden parties are known

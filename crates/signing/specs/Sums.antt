@@ -83,7 +83,7 @@ module _ (S : Shape) (x : Committed) (d : Challenge) (t : ℕ → List ℕ) wher
   open Shape S using (parties, wide, low, m1)
 
   abbrev shareC : ℕ → ℕ
-  shareC i = openedC (schemeOf S) x i (t i) d
+  shareC i = openedC (schemeOf S) i (t i) d
 
   abbrev shareA : ℕ → ℕ → ℕ
   shareA i = openedA (schemeOf S) x i (t i) d

@@ -54,7 +54,7 @@ module _ {S : Shape} (v : Valid S) {key publicKey inputs inverses witness : List
     own = ownRow S witness salt root e
 
     abbrev x : Committed
-    x = signerCommitted (schemeOf S) key publicKey message salt roots e
+    x = signerCommitted (schemeOf S) key publicKey salt roots e
 
     pub key-is : take 16 own ≡ x .keyOffset
     key-is =
@@ -66,9 +66,6 @@ module _ {S : Shape} (v : Valid S) {key publicKey inputs inverses witness : List
         own-inverses v witness salt root e key inverses (w .witness-is) (w .key-size) inverses-size
         ∙ inverse-offsets v (drawn v witness salt root e) front key (w .inverses-is)
 
-    pub front-is : take 16 publicKey ≡ front
-    front-is = ap (λ n. take n publicKey) (sym (v .plaintext))
-
     -- ---- the part of h1
 
     -- the commitments and the output shares
@@ -77,10 +74,10 @@ module _ {S : Shape} (v : Valid S) {key publicKey inputs inverses witness : List
         rows (λ i. commitment (schemeOf S) salt e i (seedOf (schemeOf S) salt root e i)) parties
         ++ rows (λ i. outputShare (schemeOf S) c i (tapeOf (schemeOf S) salt root e i)) parties
 
-    pub first-part : ownPart S (take 16 publicKey) witness salt root e ≡ signerH1Part (schemeOf S) key publicKey message salt roots e
+    pub first-part : ownPart S (frontOf (schemeOf S) publicKey) witness salt root e ≡ signerH1Part (schemeOf S) key publicKey salt roots e
     unfolding ownPart signerH1Part h1Part
     first-part =
-        ap₂ _++_ (λ j. shown (committed (front-is j) (key-is j) (inverses-are j))) (take-add 16 (sboxes S) own ∙ ap₂ _++_ key-is inverses-are)
+        ap₂ _++_ (λ j. shown (committed front (key-is j) (inverses-are j))) (take-add 16 (sboxes S) own ∙ ap₂ _++_ key-is inverses-are)
         ∙ sym (append-assoc (shown x) (x .keyOffset) (x .inverseOffsets))
 
     -- ---- the product offsets

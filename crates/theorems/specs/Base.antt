@@ -1,95 +1,83 @@
--- Demand 3 of document 01's own set, with its figures: 16 parties, ten first draws, twenty rows, at most 40 roots, the first 2,489 bytes of an
--- opening. SHAKE128 and AES-128 stand where `Soundness` has any hash and any circuit. Assumes nothing.
-use mathlib.Core.Path.{_≡_}
-use mathlib.Core.Logic.{_≢_, _⊎_}
-use mathlib.Core.List.{List}
-use Prim.Native.Nat.{ℕ, _^_, _≤_, _<_}
-use lib.ListN.{length, getD, take, drop}
-use Rattle.slices.specs.Bytes.{Bytes}
-use Rattle.field.specs.Wide32.{low32, mul32}
+-- Document 01's own set: its figures, and of it all that is stated. SHAKE128 and AES-128 stand where the statements have any hash and any circuit.
+-- Each statement is written out, with these figures by their names, in the file from which it comes. Assumes nothing.
+use mathlib.Core.Path.{_≡_, refl}
+use mathlib.Core.List.{List, [], _∷_, _++_}
+use Prim.Native.Nat.{ℕ}
+use Rattle.field.specs.Wide32.{low32}
 use Rattle.field.specs.Wide.{ops}
-use Rattle.poly.specs.Index.{update}
-use Rattle.poly.specs.Sum.{sum}
-use Rattle.poly.specs.Poly.{All, Distinct, IsZero, eval}
-use Rattle.aes.specs.Aes.{GoodKey}
-use Rattle.banquet.specs.declared.Answer.the-variants.{Accepted}
-use Rattle.banquet.specs.Hash.{commitment}
-use Rattle.banquet.specs.Execution.{Committed, Challenge}
-use Rattle.banquet.specs.Opening.{saltOf, executionOf, challengeOf, committedOf, tapeUnder, shownSeed}
-use Rattle.banquet.specs.Calls.{verifyOpening}
-use Rattle.banquet.specs.Extraction.{givenKey, givenInput, givenInverse, checkPolynomial}
-use Rattle.banquet.specs.Sets.{baseScheme}
+use Rattle.poly.specs.Field.{Ops}
+use Rattle.aes.specs.Aes as aes
+use Rattle.banquet.specs.Shape.{messageLimit, workLength}
+use Rattle.banquet.specs.Scheme.{GoodKey, wideOps}
+use Rattle.banquet.specs.Card.{refusedWord, cardOutput}
+use Rattle.banquet.specs.Sets.{baseScheme, baseFigures, base-figures}
+use Rattle.banquet.specs.OpeningChecks as openings
+use Rattle.banquet.specs.SignatureChecks as signatures
 use Rattle.theorems.specs.Sets.{base-laws}
+use Rattle.theorems.specs.Demand3.{Demand3}
 use Rattle.theorems.specs.Soundness as soundness
+use Rattle.theorems.specs.Complete as complete
+use Rattle.theorems.specs.EmptyCard as cards
 
--- the sum of n wide elements
-abbrev pub sum32 : ℕ → (ℕ → ℕ) → ℕ
-sum32 = sum (ops 32 low32)
+-- The figures are those of `banquet/Sets.baseFigures`: 16 parties, 41 executions, ten first draws, twenty rows, at most 40 roots, a public key of 32
+-- bytes, a signature of 19,776 and an opening of 2,554. The same in every set: "The message is over 32,768 bytes."; "The work slice .. is under 65,536 bytes."
+pub message-limit : messageLimit ≡ 32768
+message-limit = refl
 
--- the parts of an opening: "all bytes before the hidden party", the hidden party, and the seeds under which it shows parties
-abbrev pub before : List ℕ → List ℕ
-before o = take 2489 o
+pub work-length : workLength ≡ 65536
+work-length = refl
 
-abbrev pub hidden : List ℕ → ℕ
-hidden o = getD o 2489 0
+-- good keys are AES-128's, and wide elements are counted "modulo X^32 + X^7 + X^3 + X^2 + 1"
+pub good-key : (plaintext ciphertext key : List ℕ) → GoodKey baseScheme plaintext ciphertext key ≡ aes.GoodKey plaintext ciphertext key
+good-key plaintext ciphertext key = refl
 
-abbrev pub shown : List ℕ → ℕ → List ℕ
-shown o i = shownSeed baseScheme (before o) (hidden o) (drop 2490 o) i
+pub wide-field : wideOps baseScheme ≡ ops 32 low32
+wide-field = refl
 
--- "the two show some party under two unequal seeds with one commitment"
-abbrev pub TwoSeeds : List ℕ → List ℕ → Type 0
-TwoSeeds o o′ =
-    (i : ℕ) × (i < 16) × (i ≢ hidden o) × (i ≢ hidden o′) × (shown o i ≢ shown o′ i)
-    × (commitment baseScheme (saltOf baseScheme (before o)) (executionOf baseScheme (before o)) i (shown o i)
-    ≡ commitment baseScheme (saltOf baseScheme (before o)) (executionOf baseScheme (before o)) i (shown o′ i))
+-- ---- demand 3
 
--- "they show each of the sixteen parties under one seed only"
-abbrev pub OneSeed : List ℕ → List ℕ → (ℕ → List ℕ) → Type 0
-OneSeed o o′ seed = (i : ℕ) → i < 16 → (i ≢ hidden o → seed i ≡ shown o i) × (i ≢ hidden o′ → seed i ≡ shown o′ i)
+pub demand-3 : Demand3 baseScheme baseFigures
+demand-3 = soundness.demand-3 baseScheme base-laws base-figures
 
--- of a public key, an opening and the sixteen seeds
-module _ (publicKey o : List ℕ) (seed : ℕ → List ℕ) where
-  abbrev x : Committed
-  x = committedOf baseScheme publicKey (before o)
+-- ---- an opening, and a signature, is accepted exactly where every check holds; a message over the limit, and a
+-- signature that was cut short or lengthened, are refused
 
-  abbrev d : Challenge
-  d = challengeOf baseScheme (before o)
+pub opening-checked : openings.OpeningChecked baseScheme baseFigures
+opening-checked = openings.opening-checked baseScheme base-figures
 
-  abbrev tapes : ℕ → List ℕ
-  tapes i = tapeUnder baseScheme (before o) i (seed i)
+pub signature-checked : signatures.SignatureChecked baseScheme baseFigures
+signature-checked = signatures.signature-checked baseScheme base-figures
 
-  -- "these seeds and the key offset give one key"
-  abbrev pub key : List ℕ
-  key = givenKey baseScheme x tapes
+pub message-refused : signatures.MessageRefused baseScheme baseFigures
+message-refused = signatures.message-refused baseScheme base-figures
 
-  -- "Row k balances when the sum over j of r_j times lifted input times lifted inverse equals the sum of the r."
-  abbrev pub Balances : (ℕ → ℕ) → ℕ → Type 0
-  Balances r k =
-      sum32 10 (λ j. mul32 (mul32 (r j) (givenInput baseScheme x tapes j k)) (givenInverse baseScheme x tapes j k)) ≡ sum32 10 r
+pub length-refused : signatures.LengthRefused baseScheme baseFigures
+length-refused = signatures.length-refused baseScheme base-figures
 
-  -- "one of the ten first draws, beside the other nine, balances all twenty rows, and every other value in its place leaves some row out of balance"
-  abbrev pub OneOfTen : Type 0
-  OneOfTen =
-      (j : ℕ) × (j < 10) × ((k : ℕ) → k < 20 → Balances (d .first) k)
-      × ((a : ℕ) → a < 2 ^ 32 → a ≢ d .first j → (k : ℕ) × (k < 20) × ¬ (Balances (update (d .first) j a) k))
+-- ---- keys, openings and signatures that are made
 
-  -- "a root is a wide element at which the polynomial is zero"
-  abbrev pub IsRoot : List ℕ → ℕ → Type 0
-  IsRoot p u = (u < 2 ^ 32) × (eval (ops 32 low32) p u ≡ 0)
+pub made-key-good : complete.MadeKeyGood baseScheme baseFigures
+made-key-good = complete.made-key-good baseScheme base-laws base-figures
 
-  -- "the check polynomial isn't zero, has at most 40 roots, and the second draw is one of them"
-  abbrev pub OneOfForty : Type 0
-  OneOfForty =
-      let p = checkPolynomial baseScheme x tapes d in
-      ¬ (IsZero (ops 32 low32) p) × ((roots : List ℕ) → Distinct roots → All (IsRoot p) roots → length roots ≤ 40) × IsRoot p (d .second)
+pub good-key-opens : complete.GoodKeyOpens baseScheme baseFigures
+good-key-opens = complete.good-key-opens baseScheme base-laws base-figures
 
--- "Take any two accepted openings of one execution, whoever made them and whatever their bytes, that agree .. but hide different parties."
-pub demand-3 : (publicKey o o′ work work′ : List ℕ) → Bytes publicKey → Bytes o
-    → verifyOpening baseScheme publicKey o work .answer ≡ Accepted
-    → verifyOpening baseScheme publicKey o′ work′ .answer ≡ Accepted
-    → before o ≡ before o′
-    → hidden o ≢ hidden o′
-    → TwoSeeds o o′
-    ⊎ ((seed : ℕ → List ℕ) × OneSeed o o′ seed
-    × (GoodKey (take 16 publicKey) (drop 16 publicKey) (key publicKey o seed) ⊎ (OneOfTen publicKey o seed ⊎ OneOfForty publicKey o seed)))
-demand-3 publicKey o o′ work work′ kb ob acc acc′ = soundness.demand-3 baseScheme base-laws publicKey o o′ kb ob (work, acc) (work′, acc′)
+pub opens-good-key : complete.OpensGoodKey baseScheme baseFigures
+opens-good-key = complete.opens-good-key baseScheme base-laws base-figures
+
+pub opened-accepted : complete.OpenedAccepted baseScheme baseFigures
+opened-accepted = complete.opened-accepted baseScheme base-laws base-figures
+
+pub good-key-signs : complete.GoodKeySigns baseScheme baseFigures
+good-key-signs = complete.good-key-signs baseScheme base-laws base-figures
+
+pub signs-good-key : complete.SignsGoodKey baseScheme baseFigures
+signs-good-key = complete.signs-good-key baseScheme base-laws base-figures
+
+pub signed-accepted : complete.SignedAccepted baseScheme baseFigures
+signed-accepted = complete.signed-accepted baseScheme base-laws base-figures
+
+-- ---- "Empty input prints the whole output `refused 18 1`", with a line end
+
+pub empty-card : cardOutput baseScheme [] ≡ refusedWord ++ (0x20 ∷ 0x31 ∷ 0x38 ∷ 0x20 ∷ 0x31 ∷ 0x0a ∷ [])
+empty-card = cards.empty-card baseScheme

@@ -1,82 +1,34 @@
--- An execution that the holder of a good key runs: the output shares add up to the ciphertext, and the opened sums pass the product check.
--- Assumes nothing.
+-- An execution that the holder of a good key runs: the shares add up to the key, its S-box inputs, their inverses and the ciphertext. Assumes
+-- nothing.
 use mathlib.Core.Path.{_≡_, sym, _∙_, ap, ap₂}
 use mathlib.Core.List.{List}
-use Prim.Native.Nat.{ℕ, suc, _+_, _-_, _*_, _≤_, _<_}
+use Prim.Native.Nat.{ℕ, suc, _+_, _*_, _<_}
 use native.Mathlib.Nat.{mul-comm}
 use native.Mathlib.Omega.{arith}
-use native.Mathlib.Decide.{decLt}
 use lib.Arith.{digits-lt}
-use lib.Dec.{ltb}
-use borrow.Author.Tests.{lt-ltb, le-ltb}
-use lib.Bits.{bitXor, xor-lt, xor-comm}
 use lib.ListN.{getD, length-map}
 use Rattle.slices.specs.Lists.{sumXor}
-use Rattle.slices.specs.Bytes.{Bytes, Sized}
+use Rattle.slices.specs.Bytes.{Sized}
 use Rattle.slices.specs.Sums.{sized-zip, sized-sum, zip-undo}
-use Rattle.slices.specs.Xor.{xor-cancel}
-use Rattle.slices.specs.Numbers.{numberAt, numberAt-numbers-lt, numbers-bytes}
 use Rattle.field.specs.Field.{inverse-lt}
 use Rattle.field.specs.Byte.{mul8, inverse8, field8}
-use Rattle.poly.specs.Field.{BinaryField}
-use Rattle.poly.specs.Index.{at}
-use Rattle.poly.specs.Sum.{sum, sum-cong, sum-mul, sum-at, sum-choose, sum-each, elem-sum}
-use Rattle.poly.specs.Lagrange.{lagrange, eval-interpolate}
-use Rattle.poly.specs.Balance.{AllOne, valuesS, valuesT, valuesP, products, Values}
-use Rattle.poly.specs.ProductCheck.{values, product-complete}
+use Rattle.poly.specs.Sum.{sum}
+use Rattle.poly.specs.Balance.{AllOne}
 use Rattle.circuit.specs.Circuit.{share}
 use Rattle.circuit.specs.Sound.{map-inverted}
 use Rattle.banquet.specs.declared.Shape.{Shape}
 use Rattle.banquet.specs.Shape.{sboxes, sboxAt}
-use Rattle.banquet.specs.Scheme.{Scheme, GoodKey, trueInverses, wideOps, wideMul, Wide, lifted}
-use Rattle.banquet.specs.Execution.{
-  Committed,
-  Challenge,
-  challenge,
-  tapeKey,
-  tapeInverses,
-  tapeProduct,
-  outputShare,
-  inputAt,
-  inverseAt,
-  productAt,
-  openedC,
-  openedA,
-  openedB,
-}
-use Rattle.banquet.specs.Signer.{
-  ownCommitted,
-  trueInput,
-  trueInverse,
-  trueExtraS,
-  trueExtraT,
-  trueP,
-  productOffsetAt,
-  productOffsets,
-}
+use Rattle.banquet.specs.Scheme.{Scheme, GoodKey, trueInverses, wideOps, lifted}
+use Rattle.banquet.specs.Execution.{Committed, tapeKey, tapeInverses, outputShare, inputAt, inverseAt}
+use Rattle.banquet.specs.Signer.{ownCommitted, trueInput, trueInverse}
 use Rattle.banquet.specs.Extraction.{givenKey, givenInverses, givenInputs}
 use Rattle.theorems.specs.Laws.{Laws}
-use Rattle.theorems.specs.Wide.{wide-field, wide-points, wide-number}
-use Rattle.theorems.specs.Shares.{
-  IsTape,
-  Fits,
-  sized-tapeKey,
-  sized-tapeInverses,
-  tape-bytes,
-  sum-inputs,
-  sum-outputs,
-  total-inputs,
-  total-inverses,
-}
+use Rattle.theorems.specs.Shares.{IsTape, Fits, sized-tapeKey, sized-tapeInverses, sum-inputs, sum-outputs, total-inputs, total-inverses}
 use Rattle.theorems.specs.Keys.{sized-sboxInputs}
-use Rattle.theorems.specs.Opened.{WideChallenge, sum-through, sum-product-offset}
 
 module _ (𝓢 : Scheme) (L : Laws 𝓢) (f key ct : List ℕ) (tapes : ℕ → List ℕ) (ts : (i : ℕ) → i < 𝓢 .shape .parties → IsTape 𝓢 L (tapes i))
     (sf : Sized (𝓢 .shape .front) f) (sk : Sized 16 key) (g : GoodKey 𝓢 f ct key) where
   open Shape (𝓢 .shape) using (parties, wide, m1, m2)
-
-  F : BinaryField (wideOps 𝓢) (Wide 𝓢)
-  F = wide-field 𝓢 L
 
   -- the true inputs and inverses
   abbrev U : List ℕ
@@ -136,17 +88,17 @@ module _ (𝓢 : Scheme) (L : Laws 𝓢) (f key ct : List ℕ) (tapes : ℕ → 
       sum-inputs 𝓢 L x honest-fits tapes ts
       ∙ ap₂ (λ (k y : List ℕ). 𝓢 .circuit .inputShares f (share 1 k y)) given-key given-inverses ∙ inputs-true
 
-  honest-inputs : (j k : ℕ) → sum (wideOps 𝓢) parties (λ i. inputAt 𝓢 x i (tapes i) j k) ≡ trueInput 𝓢 tapes f key j k
+  pub honest-inputs : (j k : ℕ) → sum (wideOps 𝓢) parties (λ i. inputAt 𝓢 x i (tapes i) j k) ≡ trueInput 𝓢 f key j k
   honest-inputs j k =
       total-inputs 𝓢 L x honest-fits tapes ts j k ∙ ap (λ (s : List ℕ). lifted 𝓢 (getD s (sboxAt (𝓢 .shape) j k) 0)) given-inputs
 
-  honest-inverses : (j k : ℕ) → sum (wideOps 𝓢) parties (λ i. inverseAt 𝓢 x i (tapes i) j k) ≡ trueInverse 𝓢 tapes f key j k
+  pub honest-inverses : (j k : ℕ) → sum (wideOps 𝓢) parties (λ i. inverseAt 𝓢 x i (tapes i) j k) ≡ trueInverse 𝓢 f key j k
   honest-inverses j k =
       total-inverses 𝓢 L x honest-fits tapes ts j k ∙ ap (λ (s : List ℕ). lifted 𝓢 (getD s (sboxAt (𝓢 .shape) j k) 0)) given-inverses
 
   -- every product of a lifted input and its lifted inverse is one
-  ones : AllOne (wideOps 𝓢) m1 m2 (trueInput 𝓢 tapes f key) (trueInverse 𝓢 tapes f key)
-  ones j k hj hk =
+  pub honest-ones : AllOne (wideOps 𝓢) m1 m2 (trueInput 𝓢 f key) (trueInverse 𝓢 f key)
+  honest-ones j k hj hk =
       sym (L .embedding .muls (getD U l 0) (getD W l 0)) ∙ ap (lifted 𝓢) (ap (mul8 (getD U l 0)) (getD-W l below) ∙ inverse-right) ∙ L .embedding .one
     where
       l : ℕ
@@ -161,93 +113,3 @@ module _ (𝓢 : Scheme) (L : Laws 𝓢) (f key ct : List ℕ) (tapes : ℕ → 
 
       inverse-right : mul8 (getD U l 0) (inverse8 (getD U l 0)) ≡ 1
       inverse-right = field8 .ring .comm (getD U l 0) _ ∙ field8 .inverse-mul (getD U l 0) (sized-U .bytes .lt l) (g .no-zero l below)
-
-  -- ---- under challenges
-
-  module _ (firstBytes : List ℕ) (R : ℕ) (first-bytes : Bytes firstBytes) (wide-R : Wide 𝓢 R) where
-    abbrev r : ℕ → ℕ
-    r j = numberAt wide j firstBytes
-
-    abbrev S : ℕ → ℕ → ℕ
-    S = valuesS (wideOps 𝓢) m1 m2 r (trueInput 𝓢 tapes f key) (trueExtraS 𝓢 tapes f key)
-
-    abbrev T : ℕ → ℕ → ℕ
-    T = valuesT (wideOps 𝓢) m1 m2 (trueInverse 𝓢 tapes f key) (trueExtraT 𝓢 tapes f key)
-
-    abbrev P : ℕ → ℕ
-    P = trueP 𝓢 tapes f key firstBytes
-
-    abbrev d : Challenge
-    d = challenge 𝓢 firstBytes (productOffsets 𝓢 tapes f key firstBytes) R
-
-    pub honest-wide : WideChallenge 𝓢 L d
-    unfolding productOffsets
-    honest-wide = record {
-      wide-first = λ j. wide-number 𝓢 L j first-bytes;
-      wide-offset = λ k. wide-number 𝓢 L _ (numbers-bytes wide (suc m2) _);
-      wide-second = wide-R;
-    }
-
-    wide-P : (u : ℕ) → Wide 𝓢 (P u)
-    wide-P u = elem-sum F m1 _ (λ j l. L .field .ring .lt _ _)
-
-    wide-tapes : (k : ℕ) → Wide 𝓢 (sum (wideOps 𝓢) parties (λ i. tapeProduct 𝓢 (tapes i) k))
-    wide-tapes k = elem-sum F parties _ (λ i l. wide-number 𝓢 L _ (tape-bytes 𝓢 L (ts i l) 3))
-
-    offset-at : (k : ℕ) → m2 ≤ k → k < suc (2 * m2) → d .productOffset k ≡ bitXor (P k) (sum (wideOps 𝓢) parties (λ i. tapeProduct 𝓢 (tapes i) k))
-    unfolding productOffsets productOffsetAt
-    offset-at k h l =
-        numberAt-numbers-lt wide (suc m2) (λ n. productOffsetAt 𝓢 tapes f key firstBytes (m2 + n)) (k - m2) (omega arith)
-        (xor-lt (8 * wide) _ _ (wide-P _) (wide-tapes _))
-        ∙ ap (productOffsetAt 𝓢 tapes f key firstBytes) same
-      where
-        same : m2 + (k - m2) ≡ k
-        same = omega arith
-
-    pub sum-products : (k : ℕ) → m2 ≤ k → k < suc (2 * m2) → sum (wideOps 𝓢) parties (λ i. productAt 𝓢 x i (tapes i) d k) ≡ P k
-    unfolding productAt
-    sum-products k h l =
-        let q : ℕ = sum (wideOps 𝓢) parties (λ i. tapeProduct 𝓢 (tapes i) k) in
-        sum-product-offset 𝓢 L (λ i. tapeProduct 𝓢 (tapes i) k) (d .productOffset k) ∙ ap (bitXor q) (offset-at k h l ∙ xor-comm (P k) q)
-        ∙ xor-cancel q (P k)
-
-    pub sum-c : sum (wideOps 𝓢) parties (λ i. openedC 𝓢 x i (tapes i) d)
-        ≡ lagrange (wideOps 𝓢) (λ k. k) (suc (2 * m2)) (valuesP (wideOps 𝓢) m1 m2 (sum (wideOps 𝓢) m1 r) P) R
-    unfolding openedC
-    sum-c = sum-through 𝓢 L (suc (2 * m2)) _ _ R (λ k l. go k l (decLt k m2))
-      where
-        go : (k : ℕ) → k < suc (2 * m2) → Dec (k < m2)
-            → sum (wideOps 𝓢) parties (λ i. valuesP (wideOps 𝓢) m1 m2 (at i 0 (sum (wideOps 𝓢) m1 r) 0) (productAt 𝓢 x i (tapes i) d) k)
-            ≡ valuesP (wideOps 𝓢) m1 m2 (sum (wideOps 𝓢) m1 r) P k
-        go k l (yes h) =
-            sum-choose (wideOps 𝓢) (ltb k m2) parties _ _ ∙ rw (lt-ltb k m2 h) (sum-at F parties 0 (sum (wideOps 𝓢) m1 r) (L .some-party))
-        go k l (no h) = sum-choose (wideOps 𝓢) (ltb k m2) parties _ _ ∙ rw (le-ltb k m2 (omega arith)) (sum-products k (omega arith) l)
-
-    pub sum-a : (j : ℕ) → sum (wideOps 𝓢) parties (λ i. openedA 𝓢 x i (tapes i) d j) ≡ lagrange (wideOps 𝓢) (λ k. k) (suc m2) (S j) R
-    unfolding openedA
-    sum-a j =
-        sum-through 𝓢 L (suc m2) (S j) _ R
-        (λ k l. sum-each (wideOps 𝓢) k m2 parties _ _ ∙ ap (at k m2 _) (sum-mul F parties (r j) _ ∙ ap (wideMul 𝓢 (r j)) (honest-inputs j k)))
-
-    pub sum-b : (j : ℕ) → sum (wideOps 𝓢) parties (λ i. openedB 𝓢 x i (tapes i) d j) ≡ lagrange (wideOps 𝓢) (λ k. k) (suc m2) (T j) R
-    unfolding openedB
-    sum-b j = sum-through 𝓢 L (suc m2) (T j) _ R (λ k l. sum-each (wideOps 𝓢) k m2 parties _ _ ∙ ap (at k m2 _) (honest-inverses j k))
-
-    vs : Values (wideOps 𝓢) (Wide 𝓢) m1 m2 r (trueInput 𝓢 tapes f key) (trueInverse 𝓢 tapes f key) S T
-        (valuesP (wideOps 𝓢) m1 m2 (sum (wideOps 𝓢) m1 r) P)
-    vs =
-        values F m1 m2 r _ _ _ _ P (λ j l. wide-number 𝓢 L j first-bytes) (λ j k l h. L .embedding .lt _) (λ j k l h. L .embedding .lt _)
-        (λ j l. elem-sum F parties _ (λ i h. wide-number 𝓢 L _ (tape-bytes 𝓢 L (ts i h) 2)))
-        (λ j l. elem-sum F parties _ (λ i h. wide-number 𝓢 L _ (tape-bytes 𝓢 L (ts i h) 2))) (λ k l h. wide-P k)
-
-    P-products : (u : ℕ) → P u ≡ products (wideOps 𝓢) m1 m2 (λ k. k) S T u
-    P-products u =
-        sum-cong (wideOps 𝓢) m1
-        (λ j l. ap₂ (wideMul 𝓢) (eval-interpolate F (λ k. k) (suc m2) (S j) u) (eval-interpolate F (λ k. k) (suc m2) (T j) u))
-
-    pub honest-product : sum (wideOps 𝓢) parties (λ i. openedC 𝓢 x i (tapes i) d)
-        ≡ sum (wideOps 𝓢) m1 (λ j.
-        wideMul 𝓢 (sum (wideOps 𝓢) parties (λ i. openedA 𝓢 x i (tapes i) d j)) (sum (wideOps 𝓢) parties (λ i. openedB 𝓢 x i (tapes i) d j)))
-    honest-product =
-        sum-c ∙ product-complete F m1 m2 (wide-points 𝓢 L) vs ones (λ k h l. rw (le-ltb k m2 h) (P-products k)) R
-        ∙ sym (sum-cong (wideOps 𝓢) m1 (λ j l. ap₂ (wideMul 𝓢) (sum-a j) (sum-b j)))

@@ -18,9 +18,9 @@ use Rattle.banquet.specs.declared.Answer.the-variants.{Accepted}
 use Rattle.banquet.specs.Shape.{sboxes, publicKeyLength}
 use Rattle.banquet.specs.Scheme.{Scheme, GoodKey, trueInverses}
 use Rattle.banquet.specs.Key.{frontOf, ciphertextOf, publicKeyOf, checkInputs, checkKey}
-use Rattle.banquet.specs.Calls.{publicKeyAnswer}
+use Rattle.banquet.specs.Calls.{publicKeyTests, publicKeyAnswer}
 use Rattle.theorems.specs.Laws.{Laws}
-use Rattle.banquet.specs.Refusals.{require-split, require-join}
+use Rattle.banquet.specs.Refusals.{require-split, require-join, all-pass}
 
 module _ (𝓢 : Scheme) (L : Laws 𝓢) where
   -- the S-box inputs of a key are as many bytes as there are S-boxes
@@ -71,24 +71,21 @@ module _ (𝓢 : Scheme) (L : Laws 𝓢) where
     unfolding checkKey
     key-join g e = inputs-join (sized-front sp) kb _ (g .no-zero) (require-join _ _ _ (same-refl _ _ (g .encrypts)) e)
 
-  pub publicKeyOf-size : (key plaintext output : List ℕ) → Bytes key → Bytes plaintext → publicKeyAnswer 𝓢 key plaintext output ≡ Accepted
-      → length (publicKeyOf 𝓢 key plaintext) ≡ publicKeyLength (𝓢 .shape)
-  unfolding publicKeyAnswer publicKeyOf
-  publicKeyOf-size key plaintext output kb pb acc =
-      let a = require-split _ _ _ (lit< tt) acc in
-      let b = require-split _ _ _ (lit< tt) (a .1) in
-      let size : length plaintext ≡ 𝓢 .shape .front = eqb-true _ _ (b .0) in
-      length-append plaintext _ ∙ ap₂ _+_ size (sized-encrypt (record { size = size; bytes = pb }) kb .size)
+  module _ (key plaintext output : List ℕ) (kb : Bytes key) (pb : Bytes plaintext) (acc : publicKeyAnswer 𝓢 key plaintext output ≡ Accepted) where
+    accepts : Sized (𝓢 .shape .front) plaintext × (checkInputs 𝓢 plaintext key Accepted ≡ Accepted)
+    unfolding publicKeyAnswer
+    accepts =
+        let lengths = all-pass (publicKeyTests (𝓢 .shape) (length key) (length plaintext) (length output)) _ refl acc in
+        (record { size = eqb-true _ _ (lengths .0 1); bytes = pb }, lengths .1)
 
-  -- A key that a public key was made from is good for it.
-  pub made-key-good : (key plaintext output : List ℕ) → Bytes key → Bytes plaintext → publicKeyAnswer 𝓢 key plaintext output ≡ Accepted
-      → GoodKey 𝓢 (frontOf 𝓢 (publicKeyOf 𝓢 key plaintext)) (ciphertextOf 𝓢 (publicKeyOf 𝓢 key plaintext)) key
-  unfolding publicKeyAnswer publicKeyOf
-  made-key-good key plaintext output kb pb acc =
-      let a = require-split _ _ _ (lit< tt) acc in
-      let b = require-split _ _ _ (lit< tt) (a .1) in
-      let c = require-split _ _ _ (lit< tt) (b .1) in
-      let size = eqb-true _ _ (b .0) in
-      let d = inputs-split (record { size = size; bytes = pb }) kb Accepted (c .1) in
-      subst₂ (λ (f t : List ℕ). GoodKey 𝓢 f t key) (sym (take-at plaintext _ _ size)) (sym (drop-at plaintext _ _ size))
-      (record { no-zero = d .0; encrypts = refl })
+    pub publicKeyOf-size : length (publicKeyOf 𝓢 key plaintext) ≡ publicKeyLength (𝓢 .shape)
+    unfolding publicKeyOf
+    publicKeyOf-size = length-append plaintext _ ∙ ap₂ _+_ (accepts .0 .size) (sized-encrypt (accepts .0) kb .size)
+
+    -- A key that a public key was made from is good for it.
+    pub made-key-good : GoodKey 𝓢 (frontOf 𝓢 (publicKeyOf 𝓢 key plaintext)) (ciphertextOf 𝓢 (publicKeyOf 𝓢 key plaintext)) key
+    unfolding publicKeyOf
+    made-key-good =
+        let size = accepts .0 .size in
+        subst₂ (λ (f t : List ℕ). GoodKey 𝓢 f t key) (sym (take-at plaintext _ _ size)) (sym (drop-at plaintext _ _ size))
+        (record { no-zero = inputs-split (accepts .0) kb Accepted (accepts .1) .0; encrypts = refl })

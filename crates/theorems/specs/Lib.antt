@@ -1,20 +1,28 @@
--- The theorems. Of any scheme that has its Laws: demand 3 (Soundness), and that openings and signatures made with a good key are accepted
--- (OpeningComplete, SignatureComplete). Of document 01's set, which has them (Sets): Base, BaseChecks and BaseComplete, to be read first.
+-- The theorems. Base is to be read first: all that is stated of document 01's set, with its figures. The statements are written out, of any scheme with
+-- its figures, in Demand3, Complete, and banquet's OpeningChecks and SignatureChecks. What they ask of a scheme is in Laws, and Sets shows it of each set.
 pub mod Laws
+-- shares and keys
 pub mod Wide
 pub mod Seeds
 pub mod Shares
 pub mod Keys
+-- demand 3
+pub mod Demand3
+pub mod GoodGiven
 pub mod Soundness
+-- what is made with a good key is accepted
 pub mod Opened
 pub mod Honest
+pub mod HonestProduct
 pub mod Inputs
+pub mod OpeningRead
 pub mod OpeningComplete
 pub mod Recomputed
 pub mod SignatureFrame
+pub mod FrameRecomputed
 pub mod SignatureComplete
+pub mod Complete
+pub mod EmptyCard
+-- the sets
 pub mod Sets
 pub mod Base
-pub mod BaseChecks
-pub mod BaseComplete
-pub mod BaseCard

@@ -34,8 +34,8 @@ module _ (𝓢 : Scheme) (L : Laws 𝓢) where
     pub wide-offset : (k : ℕ) → Wide 𝓢 (d .productOffset k)
     pub wide-second : Wide 𝓢 (d .second)
 
-  module _ (x : Committed) (d : Challenge) (wd : WideChallenge d) (i : ℕ) {t : List ℕ} (h : IsTape 𝓢 L t) where
-    pub wide-C : Wide 𝓢 (openedC 𝓢 x i t d)
+  module _ (d : Challenge) (wd : WideChallenge d) (i : ℕ) {t : List ℕ} (h : IsTape 𝓢 L t) where
+    pub wide-C : Wide 𝓢 (openedC 𝓢 i t d)
     unfolding openedC productAt
     wide-C =
         wide-through 𝓢 L (wide-points 𝓢 L) _
@@ -44,6 +44,7 @@ module _ (𝓢 : Scheme) (L : Laws 𝓢) where
         (λ n. wide-number 𝓢 L _ (tape-bytes 𝓢 L h 3))))
         (d .second) (wd .wide-second)
 
+  module _ (x : Committed) (d : Challenge) (wd : WideChallenge d) (i : ℕ) {t : List ℕ} (h : IsTape 𝓢 L t) where
     pub wide-A : (j : ℕ) → Wide 𝓢 (openedA 𝓢 x i t d j)
     unfolding openedA
     wide-A j =

@@ -23,6 +23,7 @@ use Rattle.poly.specs.Sum.{sum, sum-cong, sum-add, sum-only}
 use Rattle.banquet.specs.declared.Shape.{Shape}
 use Rattle.banquet.specs.Scheme.{Scheme, wideOps, Wide}
 use Rattle.banquet.specs.Hash.{
+  firstInput,
   evaluationPoint,
   partyOf,
   firstHash,
@@ -124,7 +125,7 @@ module _ (𝓢 : Scheme) (L : Laws 𝓢) where
       → firstHash 𝓢 publicKey message salt f ≡ firstHash 𝓢 publicKey message salt g
   unfolding firstHash
   firstHash-cong publicKey message salt h =
-      ap (λ s. 𝓢 .hash (1 ∷ (publicKey ++ bytesOf 4 (length message) ++ message ++ salt ++ s)) 32) (rows-cong executions h)
+      ap (λ s. 𝓢 .hash (firstInput publicKey message salt ++ s) 32) (rows-cong executions h)
 
   pub secondHash-cong : (h1 : List ℕ) {f g : ℕ → List ℕ} → ((e : ℕ) → e < executions → f e ≡ g e) → secondHash 𝓢 h1 f ≡ secondHash 𝓢 h1 g
   unfolding secondHash

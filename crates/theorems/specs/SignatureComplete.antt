@@ -8,7 +8,7 @@ use lib.Seq.{drop-at}
 use Rattle.slices.specs.Lists.{rows, row}
 use Rattle.slices.specs.Bytes.{Bytes, append-bytes, rows-bytes}
 use Rattle.slices.specs.Tab.{length-rows, row-of-rows}
-use Rattle.slices.specs.Layout.{total, layout, HasSizes, length-layout, layout-bytes, field-layout-append}
+use Rattle.slices.specs.Layout.{total, field, layout, HasSizes, length-layout, layout-bytes, field-layout-append}
 use Rattle.poly.specs.Sum.{sum}
 use Rattle.banquet.specs.declared.Shape.{Shape}
 use Rattle.banquet.specs.declared.Answer.the-variants.{Accepted}
@@ -23,7 +23,6 @@ use Rattle.banquet.specs.Signature.{
   signerFrame,
   signature,
   frameOf,
-  headPart,
   framePart,
   frameC,
   frameA,
@@ -37,7 +36,9 @@ use Rattle.banquet.specs.Signature.{
 use Rattle.banquet.specs.Calls.{verifyAnswer}
 use Rattle.theorems.specs.Laws.{Laws}
 use Rattle.theorems.specs.SignatureFrame as one
+use Rattle.theorems.specs.FrameRecomputed as recomputed
 use Rattle.theorems.specs.Inputs.{SignInput}
+use Rattle.banquet.specs.Figures.{figuresOf}
 use Rattle.banquet.specs.SignatureChecks.{FramesHold, holds-signature}
 use Rattle.theorems.specs.Recomputed.{firstHash-cong, secondHash-cong, thirdHash-cong}
 
@@ -55,27 +56,28 @@ module _ (𝓢 : Scheme) (L : Laws 𝓢) (key publicKey message salt seeds : Lis
 
   module _ (frames : ℕ → List ℕ) (are : (e : ℕ) → e < executions → frames e ≡ frame e) where
     abbrev h2′ : List ℕ
-    h2′ = ownH2 𝓢 publicKey message salt h1 h3 frames
+    h2′ = ownH2 𝓢 h1 frames
 
     h2-is : h2′ ≡ signerH2 𝓢 key publicKey message salt seeds
     unfolding signerH2
     h2-is = secondHash-cong 𝓢 L h1 (λ e l. ap (λ (r : List ℕ). framePart 𝓢 r 4) (are e l) ∙ one.is 𝓢 L key publicKey message salt seeds input e 4)
 
-    h1-is : recomputedH1 𝓢 publicKey message salt h1 h3 frames ≡ h1
+    h1-is : recomputedH1 𝓢 publicKey message salt h3 frames ≡ h1
     unfolding signerH1
     h1-is =
         firstHash-cong 𝓢 L publicKey message salt
-        (λ e l. ap (frameH1Part 𝓢 publicKey salt h3 e) (are e l) ∙ one.first-is 𝓢 L key publicKey message salt seeds input e)
+        (λ e l. ap (frameH1Part 𝓢 publicKey salt h3 e) (are e l) ∙ recomputed.first-is 𝓢 L key publicKey message salt seeds input e)
 
-    h3-is : recomputedH3 𝓢 publicKey message salt h1 h3 frames ≡ h3
+    h3-is : recomputedH3 𝓢 publicKey salt h1 h3 frames ≡ h3
     unfolding signerH3
     h3-is =
         thirdHash-cong 𝓢 L h2′
         (λ e l.
-        ap₂ (λ (h r : List ℕ). frameH3Part 𝓢 publicKey salt h3 e r h1 h) h2-is (are e l) ∙ one.third-is 𝓢 L key publicKey message salt seeds input e)
+        ap₂ (λ (h r : List ℕ). frameH3Part 𝓢 publicKey salt h1 h h3 e r) h2-is (are e l)
+        ∙ recomputed.third-is 𝓢 L key publicKey message salt seeds input e)
         ∙ ap (λ (h : List ℕ). thirdHash 𝓢 h (signerH3Part 𝓢 key publicKey message salt seeds)) h2-is
 
-    checks : FramesHold 𝓢 publicKey message salt h1 h3 frames
+    checks : FramesHold 𝓢 (figuresOf (𝓢 .shape)) publicKey message salt h1 h3 frames
     checks = record {
       product = λ e l.
           subst (λ (r : List ℕ). frameC 𝓢 r ≡ sum (wideOps 𝓢) m1 (λ j. wideMul 𝓢 (frameA 𝓢 r j) (frameB 𝓢 r j))) (sym (are e l))
@@ -98,18 +100,18 @@ module _ (𝓢 : Scheme) (L : Laws 𝓢) (key publicKey message salt seeds : Lis
   abbrev s : List ℕ
   s = signature 𝓢 key publicKey message salt seeds
 
-  head-sizes : HasSizes (headSizes (𝓢 .shape)) head
+  head-sizes : HasSizes headSizes head
   head-sizes = (input .salt-size, (h1-size, (h3-size, tt)))
 
-  head-is : (k : ℕ) → headPart 𝓢 k s ≡ getD head k []
+  head-is : (k : ℕ) → field headSizes k s ≡ getD head k []
   unfolding signature
-  head-is k = field-layout-append (headSizes (𝓢 .shape)) head (rows frame executions) head-sizes k
+  head-is k = field-layout-append headSizes head (rows frame executions) head-sizes k
 
   pub signature-size : length s ≡ signatureLength (𝓢 .shape)
   unfolding signature
   signature-size =
       length-append (layout head) (rows frame executions)
-      ∙ ap₂ _+_ (length-layout (headSizes (𝓢 .shape)) head head-sizes)
+      ∙ ap₂ _+_ (length-layout headSizes head head-sizes)
       (length-rows (total (frameSizes (𝓢 .shape))) frame executions (λ e l. one.frame-size 𝓢 L key publicKey message salt seeds input e))
 
   h1-bytes : Bytes h1
@@ -131,7 +133,7 @@ module _ (𝓢 : Scheme) (L : Laws 𝓢) (key publicKey message salt seeds : Lis
   frames-are e l =
       rw (eq-eqb (length s) (signatureLength (𝓢 .shape)) signature-size, lt-ltb e executions l)
       (ap (row (total (frameSizes (𝓢 .shape))) e)
-      (drop-at (layout head) (rows frame executions) _ (length-layout (headSizes (𝓢 .shape)) head head-sizes))
+      (drop-at (layout head) (rows frame executions) _ (length-layout headSizes head head-sizes))
       ∙ row-of-rows (total (frameSizes (𝓢 .shape))) frame executions (λ e l. one.frame-size 𝓢 L key publicKey message salt seeds input e) e l)
 
   -- "every seal made with a good key is accepted"
@@ -144,7 +146,7 @@ module _ (𝓢 : Scheme) (L : Laws 𝓢) (key publicKey message salt seeds : Lis
         message-size = input .message-size;
         size = signature-size;
         work-size = w;
-        frames-hold = subst₃ (λ (a b c : List ℕ). FramesHold 𝓢 publicKey message a b c (frameOf 𝓢 s)) (sym (head-is 0)) (sym (head-is 1))
+        frames-hold = subst₃ (λ (a b c : List ℕ). FramesHold 𝓢 (figuresOf (𝓢 .shape)) publicKey message a b c (frameOf 𝓢 s)) (sym (head-is 0)) (sym (head-is 1))
             (sym (head-is 2))
             (checks (frameOf 𝓢 s) frames-are);
       })

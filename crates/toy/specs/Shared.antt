@@ -4,7 +4,7 @@ use mathlib.Core.Path.{_≡_, refl}
 use mathlib.Core.List.{List, [], _∷_, _++_}
 use Prim.Native.Nat.{ℕ, zero, suc}
 use lib.ListN.{getD}
-use Rattle.slices.specs.Lists.{tab, rows, row}
+use Rattle.slices.specs.Lists.{tab, rows}
 use Rattle.slices.specs.Numbers.{bytesOf, numbers}
 use Rattle.slices.specs.Layout.{layout}
 use Rattle.poly.specs.Sum.{sum}
@@ -15,6 +15,7 @@ use Rattle.banquet.specs.Key.{frontOf}
 use Rattle.banquet.specs.Execution.{Committed, Challenge, challenge, openedC, openedA, openedB}
 use Rattle.banquet.specs.Signer.{productOffsets}
 use Rattle.banquet.specs.Signature.{
+  rootOf,
   h3Part,
   signerSeed,
   signerTape,
@@ -36,17 +37,17 @@ either a b (suc e) = b
 
 -- party i's shares of c, of a and of b; one of them
 abbrev sharesOf : Committed → ℕ → List ℕ → Challenge → List ℕ
-sharesOf x i t d = openedC toy x i t d ∷ openedA toy x i t d 0 ∷ openedB toy x i t d 0 ∷ []
+sharesOf x i t d = openedC toy i t d ∷ openedA toy x i t d 0 ∷ openedB toy x i t d 0 ∷ []
 
 abbrev share : List (List ℕ) → ℕ → ℕ → ℕ
 share t i k = getD (getD t i []) k 0
 
 module _ (key publicKey message salt seeds : List ℕ) where
   abbrev tapes : ℕ → ℕ → List ℕ
-  tapes = signerTape toy key publicKey message salt seeds
+  tapes = signerTape toy salt seeds
 
   abbrev committed : ℕ → Committed
-  committed = signerCommitted toy key publicKey message salt seeds
+  committed = signerCommitted toy key publicKey salt seeds
 
   -- the parties' shares: row i has party i's of c, of a and of b
   abbrev shares : ℕ → Challenge → List (List ℕ)
@@ -62,8 +63,8 @@ module _ (key publicKey message salt seeds : List ℕ) where
   abbrev frame : List ℕ → (ℕ → List ℕ) → (ℕ → List (List ℕ)) → ℕ → List ℕ
   frame h3 offsets t e =
       layout
-      (siblingSeeds (toy .hash) salt e 2 0 (row 16 e seeds) (hiddenParty toy h3 e)
-      ∷ commitment toy salt e (hiddenParty toy h3 e) (signerSeed toy key publicKey message salt seeds e (hiddenParty toy h3 e))
+      (siblingSeeds (toy .hash) salt e 2 0 (rootOf seeds e) (hiddenParty toy h3 e)
+      ∷ commitment toy salt e (hiddenParty toy h3 e) (signerSeed toy salt seeds e (hiddenParty toy h3 e))
       ∷ committed e .keyOffset ∷ committed e .inverseOffsets ∷ offsets e
       ∷ bytesOf 1 (whole (t e) 0) ∷ numbers 1 1 (λ j. whole (t e) 1) ∷ numbers 1 1 (λ j. whole (t e) 2) ∷ [])
 

@@ -33,11 +33,11 @@ use Rattle.banquet.specs.declared.Answer.the-variants.{
 }
 use Rattle.banquet.specs.Shape.{publicKeyLength, messageLimit, workLength, signatureLength, openingLength}
 use Rattle.banquet.specs.Scheme.{Circuit, Scheme}
-use Rattle.banquet.specs.Answer.{require}
 use Rattle.banquet.specs.Opening.{transcriptOf, hiddenOf, siblingsOf, checkOpening}
-use Rattle.banquet.specs.Signature.{headPart, frameOf, checkSignature}
-use Rattle.banquet.specs.Calls.{verifyAnswer, verifyOpeningAnswer}
+use Rattle.banquet.specs.Signature.{signatureSalt, signatureH1, signatureH3, frameOf, checkSignature}
+use Rattle.banquet.specs.Calls.{verifyTests, verifyAnswer, verifyOpeningTests, verifyOpeningAnswer}
 use Rattle.banquet.specs.Card.{verifyCardAnswer}
+use Rattle.banquet.specs.Refusals.{passed}
 
 -- ---- the hash: a state that every byte of the input changes, and then bytes of the states that follow
 
@@ -138,18 +138,19 @@ module _ (𝓢 : Scheme) (publicKey : List ℕ) where
 
   abbrev pub signatureChecked : List ℕ → List ℕ → Answer
   signatureChecked message s =
-      checkSignature 𝓢 publicKey message (headPart 𝓢 0 s) (headPart 𝓢 1 s) (headPart 𝓢 2 s) (frameOf 𝓢 s)
+      checkSignature 𝓢 publicKey message (signatureSalt s) (signatureH1 s) (signatureH3 s) (frameOf 𝓢 s)
 
   module _ (work : List ℕ) (hk : eqb (length publicKey) (publicKeyLength (𝓢 .shape)) ≡ true) (hw : leb workLength (length work) ≡ true) where
     pub opening-checked : (o : List ℕ) → eqb (length o) (openingLength (𝓢 .shape)) ≡ true
         → verifyOpeningAnswer 𝓢 publicKey o work ≡ openingChecked o
-    unfolding verifyOpeningAnswer require
-    opening-checked o h = rw (hk, h, hw)
+    unfolding verifyOpeningAnswer
+    opening-checked o h = passed (verifyOpeningTests (𝓢 .shape) (length publicKey) (length o) (length work)) _ (hk, (h, (hw, tt)))
 
     pub signature-checked : (message s : List ℕ) → leb (length message) messageLimit ≡ true
         → eqb (length s) (signatureLength (𝓢 .shape)) ≡ true → verifyAnswer 𝓢 publicKey message s work ≡ signatureChecked message s
-    unfolding verifyAnswer require
-    signature-checked message s hm h = rw (hk, hm, h, hw)
+    unfolding verifyAnswer
+    signature-checked message s hm h =
+        passed (verifyTests (𝓢 .shape) (length publicKey) (length message) (length s) (length work)) _ (hk, (hm, (h, (hw, tt))))
 
 abbrev pub cardChecked : Scheme → List ℕ → Answer
 cardChecked 𝓢 text = verifyCardAnswer 𝓢 text (replicate workLength 0)

@@ -1,5 +1,5 @@
-// Texts, altered ones for the most part, are answered as by the programs. A line of input is a kind and digits in hexadecimal; a number takes its bytes
-// low byte first.
+// Texts, altered ones for the most part, are answered as by the programs. A line of input is a kind and digits in hexadecimal; a number takes its
+// bytes low byte first.
 // b  A text: its count of bytes (3 bytes), a line end, and then the text as it stands, and a line end.
 // s  The text is altered: from an index (3) on, a count of bytes (3) are taken out, and some bytes are put in, of which the count (3) stands before
 //    them.
@@ -118,9 +118,9 @@ fn write_line(line: &[u8], end: usize) {
 }
 
 fn answer_card(text: &[u8]) {
-    let mut line = [0u8; 30];
-    let end = print_card::print_card(text, &mut line);
-    write_line(&line, end);
+    let line = print_card::print_card(text);
+    let bytes = line.bytes;
+    write_line(&bytes, line.length);
 }
 
 fn answer_request(text: &[u8]) {

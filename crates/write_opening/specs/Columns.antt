@@ -25,7 +25,7 @@ module _ (S : Shape) (x : Committed) (d : Challenge) (t : ℕ → List ℕ) wher
   output i = outputShare (schemeOf S) x i (t i)
 
   abbrev pub shareC : ℕ → List ℕ
-  shareC i = bytesOf wide (openedC (schemeOf S) x i (t i) d)
+  shareC i = bytesOf wide (openedC (schemeOf S) i (t i) d)
 
   abbrev pub shareA : ℕ → List ℕ
   shareA i = numbers wide m1 (openedA (schemeOf S) x i (t i) d)

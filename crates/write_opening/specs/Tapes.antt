@@ -26,10 +26,10 @@ module _ (𝓢 : Scheme) {t t′ : ℕ → List ℕ} (same : (i : ℕ) → i < �
 
   -- ---- the product offsets
 
-  extra-S : trueExtraS 𝓢 t front key ≡ trueExtraS 𝓢 t′ front key
+  extra-S : trueExtraS 𝓢 t ≡ trueExtraS 𝓢 t′
   extra-S = fun-ext (λ j. sum-cong (wideOps 𝓢) parties (λ i l. ap (λ s. tapeS 𝓢 s j) (same i l)))
 
-  extra-T : trueExtraT 𝓢 t front key ≡ trueExtraT 𝓢 t′ front key
+  extra-T : trueExtraT 𝓢 t ≡ trueExtraT 𝓢 t′
   extra-T = fun-ext (λ j. sum-cong (wideOps 𝓢) parties (λ i l. ap (λ s. tapeT 𝓢 s j) (same i l)))
 
   module _ (firstBytes : List ℕ) where
@@ -37,8 +37,8 @@ module _ (𝓢 : Scheme) {t t′ : ℕ → List ℕ} (same : (i : ℕ) → i < �
     abbrev P : ℕ → (ℕ → ℕ) → (ℕ → ℕ) → ℕ
     P u a b =
         sum (wideOps 𝓢) m1
-        (λ j. wideMul 𝓢 (through 𝓢 (suc m2) (valuesS (wideOps 𝓢) m1 m2 (λ j. numberAt wide j firstBytes) (trueInput 𝓢 t front key) a j) u)
-        (through 𝓢 (suc m2) (valuesT (wideOps 𝓢) m1 m2 (trueInverse 𝓢 t front key) b j) u))
+        (λ j. wideMul 𝓢 (through 𝓢 (suc m2) (valuesS (wideOps 𝓢) m2 (λ j. numberAt wide j firstBytes) (trueInput 𝓢 front key) a j) u)
+        (through 𝓢 (suc m2) (valuesT m2 (trueInverse 𝓢 front key) b j) u))
 
     P-cong : (u : ℕ) → trueP 𝓢 t front key firstBytes u ≡ trueP 𝓢 t′ front key firstBytes u
     P-cong u = ap₂ (P u) extra-S extra-T

@@ -8,9 +8,11 @@ use borrow.Author.Tests.{not-true, not-false}
 use borrow.Author.Needs.{needs}
 use Rattle.field.specs.Byte.{inverse8}
 use Rattle.banquet.specs.declared.Answer.the-variants.{Accepted, WrongKey}
+use Rattle.banquet.specs.Sets.{schemeOf}
 use Rattle.banquet.specs.Answer.{require}
+use Rattle.banquet.specs.Key.{frontOf}
 use Rattle.sets.specs.Circuit.{sboxes-200}
-use Rattle.check_key.proofs.Laws.{Answered, zero-refused, compared}
+use Rattle.check_key.proofs.Laws.{plaintext-long, Answered, zero-refused, compared}
 use Rattle.check_key.proofs.check_key.Statement.{statement}
 use Rattle.check_key.proofs.check_key.Tie as tie
 
@@ -20,12 +22,17 @@ module _ (x : tie.After-encrypt) where
   abbrev start : tie.Start
   start = x .before .before .before .before .before .before .before
 
+  abbrev plaintext-is : x .before .before .front .result .now ≡ frontOf (schemeOf (start .args .shape)) (start .args .public .now)
+  plaintext-is = x .before .before .front .ensures
+
   inputs-kept : length (x .encrypt .last .1 .1 .0) ≡ length (start .args .inputs .now)
   inputs-kept = x .encrypt .kept .1 .1 .0
 
 encrypt-requires : tie.Need-encrypt-requires
 encrypt-requires c κs =
-    let p = c .before .before .before .before .before .before .pre in (p .1, (search needs, p .3 ∙ sboxes-200 (p .0)))
+    let f = c .before in
+    let s = f .before .before .before .before .before in
+    let p = s .pre in (p .1, (plaintext-long (p .0) (s .args .key .now) (s .args .public .now) (f .front .ensures) (p .2), p .3 ∙ sboxes-200 (p .0)))
 
 copy-requires : tie.Need-copy-requires
 copy-requires c κs =
@@ -60,7 +67,8 @@ returns c =
     let z = c .before in
     let i = done z in
     let s = entry i in
-    zero-refused (s .pre .0) (s .args .key .now) (s .args .public .now) (encrypted i .encrypt .ensures .1) (inverted i) (s .pre .3)
+    zero-refused (s .pre .0) (s .args .key .now) (s .args .public .now) (plaintext-is (encrypted i)) (encrypted i .encrypt .ensures .1) (inverted i)
+    (s .pre .3)
     (z .first-zero .ensures) (c .if1 .taken)
 
 -- ---- the ciphertext was compared
@@ -70,14 +78,15 @@ tested q = q .before .before .before
 
 answered : (q : tie.After-equal) {u : Bool} → q .equal .result ≡ u
     → let i = done (tested q .before) in
-    Answered (entry i .pre .0) (entry i .args .key .now) (entry i .args .public .now) (encrypted i .encrypt .ensures .1) (inverted i)
+    Answered (entry i .pre .0) (entry i .args .key .now) (entry i .args .public .now) (plaintext-is (encrypted i)) (encrypted i .encrypt .ensures .1)
+    (inverted i)
     (require u WrongKey Accepted)
 answered q h =
     let z = tested q .before in
     let i = done z in
     let s = entry i in
-    compared (s .pre .0) (s .args .key .now) (s .args .public .now) (encrypted i .encrypt .ensures .1) (inverted i) (s .pre .3)
-    (z .first-zero .ensures) (tested q .if1 .left) (s .pre .2) (encrypted i .encrypt .ensures .0) (q .equal .ensures) h
+    compared (s .pre .0) (s .args .key .now) (s .args .public .now) (plaintext-is (encrypted i)) (encrypted i .encrypt .ensures .1) (inverted i)
+    (s .pre .3) (z .first-zero .ensures) (tested q .if1 .left) (encrypted i .encrypt .ensures .0) (q .before .ciphertext2 .ensures) (q .equal .ensures) h
 
 returns-2 : tie.Need-returns-2
 unfolding require
@@ -94,9 +103,7 @@ pub check-key-spec : {M : Type 1} → statement M
 check-key-spec =
     tie.close
     (tie.spec
-    (λ c. search needs)
-    (λ c. search needs)
-    (λ c. search needs)
+    (λ c κs. search needs)
     encrypt-requires
     copy-requires
     (λ c κs. tt)
@@ -109,9 +116,7 @@ check-key-spec =
     (λ c. inverses-kept (done (c .before)))
     returns
     (λ c. search needs)
-    (λ c. search needs)
-    (λ c. search needs)
-    (λ c. search needs)
+    (λ c κs. entry (done (c .before .before)) .pre .2)
     (λ c κs. search needs)
     (λ c. inputs-kept (encrypted (found (c .before))))
     (λ c. inverses-kept (found (c .before)))

@@ -6,92 +6,68 @@ use borrow.Author.Needs.{needs}
 use Rattle.slices.specs.Bytes.{bytes-of}
 use Rattle.banquet.specs.Sets.{schemeOf}
 use Rattle.banquet.specs.Opening.{executionOf}
-use Rattle.check_opening.proofs.Ranges.{
-  execution-is,
-  execution-refused,
-  hidden-refused,
-  second-refused,
-  parties-checked,
-}
+use Rattle.check_opening.proofs.Ranges.{execution-is, ranges-refused, parties-checked}
 use Rattle.check_opening.proofs.check_ranges.Statement.{statement}
 use Rattle.check_opening.proofs.check_ranges.Tie as tie
 
--- ---- earlier moments
+-- where the ranges have been tested
+module _ (r : tie.After-ranges) where
+  abbrev read : tie.After-second-of
+  read = r .before
 
-abbrev struct-known-before-check-parties : tie.After-check-parties → tie.After-struct-known
-struct-known-before-check-parties c = c .before .before .before .before .before .before .before
-
--- ---- the execution, which is a byte
-
-module _ (k : tie.After-struct-known) where
   abbrev start : tie.Start
-  start = k .before .before .before .before .before .before
+  start = read .before .before .before .before .before .before
 
+  -- the execution is a byte
   numbered : getD (start .args .transcript .now) 32 0 ≡ executionOf (schemeOf (start .args .shape)) (start .args .transcript .now)
   numbered = execution-is (start .args .shape) (start .args .transcript .now) (omega (arith, start .pre .2))
 
 returns : tie.Need-returns
 returns c =
-    let k = c .before in
-    let a = start k .args in
-    execution-refused (a .shape) (a .public .now) (a .transcript .now) (a .hidden) (a .siblings .now) (a .work .now) (numbered k) (c .if1 .taken)
+    let r = c .before in
+    let a = start r .args in
+    ranges-refused (a .shape) (a .public .now) (a .transcript .now) (a .hidden) (a .siblings .now) (a .work .now) (numbered r)
+    (read r .second-of .ensures) (r .ranges .ensures) (c .match .keys2)
 
-returns-2 : tie.Need-returns-2
-returns-2 c =
-    let t = c .before .before in
-    let k = t .before in
-    let a = start k .args in
-    hidden-refused (a .shape) (a .public .now) (a .transcript .now) (a .hidden) (a .siblings .now) (a .work .now) (numbered k) (t .if1 .left)
-    (c .if2 .taken)
-
-returns-3 : tie.Need-returns-3
-returns-3 c =
-    let n = c .before in
-    let u = n .before in
-    let t = u .before .before in
-    let k = t .before in
-    let a = start k .args in
-    second-refused (a .shape) (a .public .now) (a .transcript .now) (a .hidden) (a .siblings .now) (a .work .now) (numbered k) (t .if1 .left)
-    (u .if2 .left) (n .second-of .ensures) (c .if3 .taken)
+abbrev tested : tie.After-enum-told → tie.After-ranges
+tested g = g .before .before
 
 check-parties-requires : tie.Need-check-parties-requires
 check-parties-requires c κs =
-    let n = c .before .before in
-    let k = n .before .before .before .before in
-    let s = start k in
-    let x = k .before .before .before .before in (
+    let r = tested (c .before) in
+    let s = start r in
+    let x = read r .before .before .before .before in (
       record {
         valid = s .pre .0;
-        key = record { size = omega (arith, s .pre .0 .plaintext, s .pre .1); bytes = bytes-of (x .before .shared-slice-known .given) };
+        key = record { size = s .pre .1; bytes = bytes-of (x .before .shared-slice-known .given) };
         stated = record { size = s .pre .2; bytes = bytes-of (x .shared-slice-known2 .given) };
-        e-is = numbered k;
-        second-is = n .second-of .ensures;
+        e-is = numbered r;
+        second-is = read r .second-of .ensures;
       },
       s .pre .3,
       s .pre .4,
     )
 
+abbrev passed : tie.After-check-parties → tie.After-enum-told
+passed p = p .before .before
+
 clear-requires : tie.Need-clear-requires
 clear-requires c κs =
-    let p = c .before .before .before in
-    let s = start (struct-known-before-check-parties p) in
-    omega (arith, p .check-parties .ensures .1 .long, s .pre .4)
+    let p = c .before .before .before in omega (arith, p .check-parties .ensures .1 .long, start (tested (passed p)) .pre .4)
 
-returns-4 : tie.Need-returns-4
-returns-4 c =
+returns-2 : tie.Need-returns-2
+returns-2 c =
     let z = c .before .before in
     let p = z .before .before .before .before in
-    let n = p .before .before .before in
-    let u = n .before in
-    let t = u .before .before in
-    let k = t .before in
-    let a = start k .args in
-    parties-checked (a .shape) (a .public .now) (a .transcript .now) (a .hidden) (a .siblings .now) (a .work .now) (numbered k) (t .if1 .left)
-    (u .if2 .left) (n .second-of .ensures) (p .before .before .if3 .left) (p .check-parties .ensures .0) (p .check-parties .ensures .1)
+    let g = passed p in
+    let r = tested g in
+    let a = start r .args in
+    parties-checked (a .shape) (a .public .now) (a .transcript .now) (a .hidden) (a .siblings .now) (a .work .now) (numbered r)
+    (read r .second-of .ensures) (r .ranges .ensures) (g .enum-told .given .1) (p .check-parties .ensures .0) (p .check-parties .ensures .1)
     (z .clear .ensures)
 
 pub check-ranges-spec : {M : Type 1} → statement M
 check-ranges-spec =
     tie.close
-    (tie.spec (λ c. search needs) (λ c. omega (arith, c .shared-slice-known4 .given 32)) returns returns-2 (λ c κs. search needs) returns-3
-    check-parties-requires clear-requires (λ c. search needs) returns-4)
+    (tie.spec (λ c. search needs) (λ c κs. search needs) (λ c. omega (arith, c .before .shared-slice-known4 .given 32)) (λ c κs. tt)
+    (λ c. c .match .keys1) returns check-parties-requires clear-requires (λ c. search needs) returns-2)

@@ -9,8 +9,8 @@ use borrow.Author.Needs.{needs}
 use Rattle.slices.specs.Layout.{total}
 use Rattle.slices.proofs.Counts.{in-word, begins, next-most}
 use Rattle.slices.proofs.Rows.{row-cut}
+use Rattle.banquet.specs.Shape.{headLength}
 use Rattle.sets.specs.Bounds.{rowSizes, columns-most}
-use Rattle.verify_answers.specs.Head.{salt-is}
 use Rattle.check_signature.proofs.Execution.{first-room, first-most, second-room, third-room, Absorbed, absorbed-none, given, turn}
 use Rattle.check_signature.proofs.absorb_executions.Statement.{statement}
 use Rattle.check_signature.proofs.absorb_executions.Tie as tie
@@ -28,14 +28,17 @@ abbrev μ-loop : tie.MeasureT-loop
 abbrev start-before-struct-known : tie.After-struct-known Inv-loop μ-loop → tie.Start Inv-loop μ-loop
 start-before-struct-known c = c .before .before .before .before .before .before .before .before
 
-abbrev turn-before-absorb-frame-arg4 : tie.After-absorb-frame-arg4 Inv-loop μ-loop → tie.In-loop Inv-loop μ-loop
-turn-before-absorb-frame-arg4 c = c .before .before .before .before .before .before .before
+abbrev turn-before-absorb-frame-arg3 : tie.After-absorb-frame-arg3 Inv-loop μ-loop → tie.In-loop Inv-loop μ-loop
+turn-before-absorb-frame-arg3 c = c .before .before .before .before .before .before .before
 
 abbrev start : tie.At-loop Inv-loop μ-loop → tie.Start Inv-loop μ-loop
 start k = (k .before .before .before .before .before .before .before .before .before)
 
-salt-room : (s : tie.Start Inv-loop μ-loop) → 32 ≤ length (s .args .s .now)
-salt-room s = omega (arith, s .pre .0 .file-sized .size)
+abbrev salted : tie.After-absorb-frame Inv-loop μ-loop → tie.After-salt Inv-loop μ-loop
+salted x = x .before .before .before .before .before .before .before
+
+head-room : (s : tie.Start Inv-loop μ-loop) → headLength ≤ length (s .args .s .now)
+head-room s = omega (arith, s .pre .0 .file-sized .size)
 
 mul-n : tie.Need-mul-n Inv-loop μ-loop
 mul-n c =
@@ -55,19 +58,20 @@ most i = first-most (start (i .before) .pre .0) (start (i .before) .pre .1) (i .
 hidden-requires : tie.Need-hidden-requires Inv-loop μ-loop
 hidden-requires c κs = let i = c .before in let p = start (i .before) .pre in (p .0 .valid, third-room (p .0) (p .1) (i .loop-test .taken))
 
-part-absorb-frame-end-2 : tie.Need-part-absorb-frame-end-2 Inv-loop μ-loop
-part-absorb-frame-end-2 c = let i = (c .before .before) in let p = start (i .before) .pre in first-room (p .0) (p .1) (i .loop-test .taken)
+part-absorb-frame-end : tie.Need-part-absorb-frame-end Inv-loop μ-loop
+part-absorb-frame-end c = let i = (c .before .before) in let p = start (i .before) .pre in first-room (p .0) (p .1) (i .loop-test .taken)
 
 second-requires : tie.Need-second-requires Inv-loop μ-loop
 second-requires c κs = let i = (c .before .before .before) in let p = start (i .before) .pre in (p .0 .valid, second-room (p .0) (p .1) (i .loop-test .taken))
 
 absorb-frame-requires : tie.Need-absorb-frame-requires Inv-loop μ-loop
 absorb-frame-requires c κs =
-    let i = turn-before-absorb-frame-arg4 c in
+    let i = turn-before-absorb-frame-arg3 c in
     let k = i .before in
     let a = start k .args in
     let p = start k .pre in (
-      given (p .0) (p .1) (i .loop-test .taken) (salt-is (a .shape) (a .s .now)) ((c .before .before .before .before .before) .hidden .ensures)
+      given (p .0) (p .1) (i .loop-test .taken) ((c .before .before .before .before .before .before) .salt .ensures)
+          ((c .before .before .before .before .before) .hidden .ensures)
           (row-cut (k .loop .e) (a .shape .m1 * a .shape .wide) (a .firsts .now)) ((c .before .before .before) .second .ensures)
           ((c .before .before) .frame .ensures),
       k .loop .inv .1,
@@ -76,13 +80,13 @@ absorb-frame-requires c κs =
 
 add-e : tie.Need-add-e Inv-loop μ-loop
 add-e c =
-    let i = (turn-before-absorb-frame-arg4 (c .before .before .before .before .before)) in
+    let i = (turn-before-absorb-frame-arg3 (c .before .before .before .before .before)) in
     in-word (next-most (i .loop-test .taken)) (le-trans (start (i .before) .pre .0 .valid .brief) (lit≤ tt))
 
 loop-again : tie.Need-loop-again Inv-loop μ-loop
 loop-again c =
     let x = (c .before .before .before .before) in
-    let i = (turn-before-absorb-frame-arg4 (x .before)) in
+    let i = (turn-before-absorb-frame-arg3 (x .before)) in
     let k = i .before in
     let a = start k .args in
     let p = start k .pre in
@@ -90,7 +94,7 @@ loop-again c =
       next-most (i .loop-test .taken),
       x .absorb-frame .kept .1 .1 .1 .1 .1 .1 .1 .1 .1 .0 ∙ v .1,
       x .absorb-frame .kept .1 .1 .1 .1 .1 .1 .1 .1 .1 .1 .0 ∙ v .2,
-      turn (p .0) (p .1) (i .loop-test .taken) (salt-is (a .shape) (a .s .now)) ((x .before .before .before .before .before .before) .hidden .ensures)
+      turn (p .0) (p .1) (i .loop-test .taken) (salted x .salt .ensures) ((x .before .before .before .before .before .before) .hidden .ensures)
           (row-cut (k .loop .e) (a .shape .m1 * a .shape .wide) (a .firsts .now)) ((x .before .before .before .before) .second .ensures)
           ((x .before .before .before) .frame .ensures) (v .3) (x .absorb-frame .ensures .0) (x .absorb-frame .ensures .1 .0),
     )
@@ -104,8 +108,8 @@ returns c =
 pub absorb-executions-spec : {M : Type 1} → statement M
 absorb-executions-spec =
     tie.close
-    (tie.spec Inv-loop μ-loop mul-n loop-holds (λ c. in-word (begins _ (most c)) (lit≤ tt)) (λ c. in-word (most c) (lit≤ tt)) (λ c. lit≤ tt) (λ c. lit≤ tt)
-    (λ c. salt-room (start (c .before))) (λ c. search needs) hidden-requires (λ c. le-add-right _ _) (λ c. le-add-right _ _) part-absorb-frame-end-2
+    (tie.spec Inv-loop μ-loop mul-n loop-holds (λ c. in-word (begins _ (most c)) (lit≤ tt)) (λ c. in-word (most c) (lit≤ tt))
+    (λ c κs. head-room (start (c .before))) (λ c. search needs) hidden-requires (λ c. le-add-right _ _) (λ c. le-add-right _ _) part-absorb-frame-end
     second-requires
     (λ c κs. start (c .before .before .before .before .before) .pre .0 .valid) absorb-frame-requires add-e (λ c. search needs) loop-again
     (λ c. c .before .loop .inv .1 ∙ sym (start (c .before) .pre .2)) (λ c. c .before .loop .inv .2 ∙ sym (start (c .before) .pre .3)) returns)

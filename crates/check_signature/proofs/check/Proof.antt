@@ -1,65 +1,81 @@
 -- `check_signature::check` refuses by length, in the call's order, and else checks the signature. Assumes nothing.
-use mathlib.Core.Path.{sym, _∙_}
+use mathlib.Core.Path.{_≡_, refl}
+use mathlib.Core.Bool.{true}
+use mathlib.Core.List.{List}
+use Prim.Native.Nat.{ℕ, _≤_}
 use native.Mathlib.Omega.{arith}
+use lib.ListN.{length}
+use borrow.Author.Tests.{eqb-true, leb-true}
 use borrow.Author.Needs.{needs}
 use Rattle.slices.specs.Bytes.{bytes-of}
-use Rattle.verify_answers.specs.Answers.{key-refused, message-refused, file-refused, work-refused, checked}
+use Rattle.banquet.specs.Shape.{workLength}
+use Rattle.banquet.specs.Answer.{Test}
+use Rattle.banquet.specs.Refusals.{testAt}
+use Rattle.verdict.specs.Tests.{passes}
+use Rattle.check_signature.proofs.Answers.{tests, refused, answered}
 use Rattle.check_signature.proofs.check.Statement.{statement}
 use Rattle.check_signature.proofs.check.Tie as tie
 
+-- where the lengths have been tested
+module _ (l : tie.After-verify) where
+  abbrev start : tie.Start
+  start = l .before .before .before .before .before
+
 returns : tie.Need-returns
 returns c =
-    let k = c .before in
-    let s = (k .before .before .before .before) in
-    let a = s .args in
-    key-refused (s .pre) (a .public .now) (a .message .now) (a .s .now) (a .work .now) (c .if1 .taken)
+    let l = c .before in
+    let a = start l .args in
+    refused (a .shape) (a .public .now) (a .message .now) (a .s .now) (a .work .now) (l .verify .ensures) (c .match .keys2)
 
-returns-2 : tie.Need-returns-2
-returns-2 c =
-    let k = c .before in
-    let s = (k .before .before .before .before .before) in
-    let a = s .args in
-    message-refused (s .pre) (a .public .now) (a .message .now) (a .s .now) (a .work .now) (k .if1 .left) (c .if2 .taken)
+-- they are right
+module _ (g : tie.After-enum-told) where
+  abbrev tested : tie.After-verify
+  tested = g .before .before
 
-returns-3 : tie.Need-returns-3
-returns-3 c =
-    let k = c .before in
-    let s = (k .before .before .before .before .before .before .before) in
-    let a = s .args in
-    file-refused (s .pre) (a .public .now) (a .message .now) (a .s .now) (a .work .now) ((k .before .before) .if1 .left) ((k .before) .if2 .left)
-    (λ e. c .if3 .taken (e ∙ sym (k .signature-length .ensures .0)))
+  abbrev entry : tie.Start
+  entry = start tested
 
-returns-4 : tie.Need-returns-4
-returns-4 c =
-    let k = c .before in
-    let s = (k .before .before .before .before .before .before .before .before) in
-    let a = s .args in
-    work-refused (s .pre) (a .public .now) (a .message .now) (a .s .now) (a .work .now) ((k .before .before .before) .if1 .left) ((k .before .before) .if2 .left)
-    (k .if3 .left ∙ (k .before) .signature-length .ensures .0) (c .if4 .taken)
+  abbrev asked : List Test
+  asked = let a = entry .args in tests (a .shape) (a .public .now) (a .message .now) (a .s .now) (a .work .now)
+
+  right : (k : ℕ) → testAt asked k ≡ true
+  right = passes asked refl (tested .verify .ensures) (g .enum-told .given .1)
+
+  room : workLength ≤ length (entry .args .work .now)
+  room = leb-true _ _ (right 3)
 
 check-products-requires : tie.Need-check-products-requires
 check-products-requires c κs =
-    let s = (c .before .before .before .before .before .before .before .before .before .before) in (
+    let g = c .before in
+    let known = tested g .before .before in (
       record {
-        valid = s .pre;
-        public-sized = record { size = (c .before .before .before .before .before) .if1 .left ∙ sym (omega (arith, s .pre .plaintext)); bytes = bytes-of ((c .before .before .before .before .before .before .before .before .before) .shared-slice-known .given) };
-        file-sized = record {
-          size = (c .before .before) .if3 .left ∙ (c .before .before .before) .signature-length .ensures .0;
-          bytes = bytes-of ((c .before .before .before .before .before .before .before) .shared-slice-known3 .given);
-        };
+        valid = entry g .pre;
+        public-sized = record { size = eqb-true _ _ (right g 0); bytes = bytes-of (known .before .before .shared-slice-known .given) };
+        file-sized = record { size = eqb-true _ _ (right g 2); bytes = bytes-of (known .shared-slice-known3 .given) };
       },
-      (c .before) .if4 .left,
+      room g,
     )
 
-returns-5 : tie.Need-returns-5
-returns-5 c =
-    let s = (c .before .before .before .before .before .before .before .before .before .before .before .before .before .before .before .before .before) in
-    let a = s .args in
-    let x = (c .before .before .before .before .before .before) .check-products .ensures in
-    checked (s .pre) (a .public .now) (a .message .now) (a .s .now) (a .work .now) ((c .before .before .before .before .before .before .before .before .before .before .before .before) .if1 .left) ((c .before .before .before .before .before .before .before .before .before .before .before) .if2 .left)
-    ((c .before .before .before .before .before .before .before .before .before) .if3 .left ∙ (c .before .before .before .before .before .before .before .before .before .before) .signature-length .ensures .0) ((c .before .before .before .before .before .before .before .before) .if4 .left) (x .0) (x .1) ((c .before .before) .clear .ensures)
+abbrev lengths-right : tie.After-check-products → tie.After-enum-told
+lengths-right x = x .before .before
+
+abbrev checked-before-clear : tie.After-clear → tie.After-check-products
+checked-before-clear z = z .before .before .before .before
+
+clear-requires : tie.Need-clear-requires
+clear-requires c κs =
+    let x = c .before .before .before in omega (arith, x .check-products .ensures .1 .long, room (lengths-right x))
+
+returns-2 : tie.Need-returns-2
+returns-2 c =
+    let z = c .before .before in
+    let x = checked-before-clear z in
+    let g = lengths-right x in
+    let a = entry g .args in
+    answered (a .shape) (a .public .now) (a .message .now) (a .s .now) (a .work .now) (right g) (x .check-products .ensures .0)
+    (x .check-products .ensures .1) (z .clear .ensures)
 
 pub check-spec : {M : Type 1} → statement M
 check-spec =
     tie.close
-    (tie.spec returns returns-2 (λ c κs. search needs) returns-3 returns-4 check-products-requires (λ c κs. search needs) (λ c. search needs) returns-5)
+    (tie.spec (λ c κs. search needs) (λ c. c .match .keys1) returns check-products-requires clear-requires (λ c. search needs) returns-2)

@@ -1,10 +1,8 @@
 -- `check_signature::check_hashes` meets its contract: what is absorbed is what h1 and h3 bind. Assumes nothing.
-use mathlib.Core.Path.{ap, _∙_}
+use mathlib.Core.Path.{_∙_}
 use native.Mathlib.Omega.{arith}
-use lib.ListN.{length}
 use borrow.Author.Needs.{needs}
 use Rattle.slices.specs.Bytes.{bytes-of}
-use Rattle.second_hash.proofs.Laws.{sized-second}
 use Rattle.check_signature.proofs.Hashes.{first-right, third-right, hashes-tested}
 use Rattle.check_signature.proofs.check_hashes.Statement.{statement}
 use Rattle.check_signature.proofs.check_hashes.Tie as tie
@@ -29,9 +27,6 @@ start-before-compare-hashes c = start-before-first-input (first-input-before-com
 abbrev message-known-before-compare-hashes : tie.After-compare-hashes → tie.After-shared-slice-known2
 message-known-before-compare-hashes c = first-input-before-compare-hashes c .before .before .before .before .before .before
 
-tagged-requires : tie.Need-tagged-requires
-tagged-requires c κs = let s = start-before-first-input c in ap length (s .pre .1) ∙ sized-second (s .args .shape) _ _ .size
-
 compare-hashes-requires : tie.Need-compare-hashes-requires
 compare-hashes-requires c κs = omega (arith, start-before-slice-known4 c .pre .0 .file-sized .size)
 
@@ -42,11 +37,13 @@ returns c =
     let m = bytes-of (message-known-before-compare-hashes c .shared-slice-known2 .given) in
     let t = (c .before .before .before .before .before) .recomputed .ensures in
     c .compare-hashes .ensures
-    ∙ hashes-tested f m (first-right f m (first-input-before-compare-hashes c .first-input .ensures) (t .0))
+    ∙ hashes-tested f m
+    (first-right f m (first-input-before-compare-hashes c .before .salt .ensures) (first-input-before-compare-hashes c .first-input .ensures) (t .0))
     (third-right f m (s .pre .1) (tagged-before-compare-hashes c .tagged .ensures) (t .1))
 
 pub check-hashes-spec : {M : Type 1} → statement M
 check-hashes-spec =
     tie.close
-    (tie.spec (λ c. search needs) (λ c. search needs) (λ c. search needs) (λ c κs. search needs) tagged-requires (λ c κs. search needs)
+    (tie.spec (λ c κs. omega (arith, c .before .before .before .before .before .before .pre .0 .file-sized .size)) (λ c κs. tt) (λ c κs. tt)
+    (λ c κs. search needs)
     compare-hashes-requires (λ c. search needs) (λ c. search needs) returns)

@@ -1,5 +1,5 @@
 -- `check_signature::check_products` meets its contract: number 15, then the hashes; only the front of the work slice is written. Assumes nothing.
-use mathlib.Core.Path.{_≡_, refl, ap, _∙_}
+use mathlib.Core.Path.{_≡_, refl, sym, ap, _∙_}
 use mathlib.Core.List.{List}
 use Prim.Native.Nat.{ℕ, _*_, _≤_, zero-le}
 use native.Mathlib.Nat.{le-trans, mul-le-mul-right}
@@ -12,10 +12,7 @@ use Rattle.banquet.specs.Shape.{signatureLength}
 use Rattle.sets.specs.Valid.{Valid}
 use Rattle.sets.specs.Bounds.{rows-most}
 use Rattle.scratch.proofs.Laws.{scratch-front}
-use Rattle.banquet.specs.Sets.{schemeOf}
-use Rattle.banquet.specs.Signature.{headPart, frameOf}
-use Rattle.verify_answers.specs.Answers.{product-refused, products-hold}
-use Rattle.check_signature.proofs.Hashes.{products-right}
+use Rattle.check_signature.proofs.Answers.{product-refused, products-hold}
 use Rattle.check_signature.proofs.check_products.Statement.{statement}
 use Rattle.check_signature.proofs.check_products.Tie as tie
 
@@ -27,11 +24,8 @@ start-before-else1 c = c .before .before .before .before .before .before .before
 returns : tie.Need-returns
 returns c =
     let k = c .before in
-    let a = (k .before .before .before .before .before .before) .args in
-    let s = a .s .now in
-    let 𝓢 = schemeOf (a .shape) in (
-      product-refused (a .shape) (a .public .now) (a .message .now) (headPart 𝓢 0 s) (headPart 𝓢 1 s) (headPart 𝓢 2 s) (frameOf 𝓢 s)
-          ((k .before) .first-product .ensures) (c .if1 .taken),
+    let a = (k .before .before .before .before .before .before) .args in (
+      product-refused (a .shape) (a .public .now) (a .message .now) (a .s .now) ((k .before) .first-product .ensures) (c .if1 .taken),
       record { long = refl; rest = refl },
     )
 
@@ -64,12 +58,9 @@ returns-2 c =
     let x = (c .before .before .before) in
     let r = (x .before .before .before .before .before) in
     let a = start r .args in
-    let s = a .s .now in
-    let 𝓢 = schemeOf (a .shape) in
     let l = (r .before .before .before) in (
-      products-right (a .shape) (a .public .now) (a .message .now) s (x .check-hashes .ensures)
-          (products-hold (a .shape) (a .public .now) (a .message .now) (headPart 𝓢 0 s) (headPart 𝓢 1 s) (headPart 𝓢 2 s) (frameOf 𝓢 s)
-          ((l .before .before) .first-product .ensures) (l .if1 .left)),
+      x .check-hashes .ensures
+          ∙ sym (products-hold (a .shape) (a .public .now) (a .message .now) (a .s .now) ((l .before .before) .first-product .ensures) (l .if1 .left)),
       scratch-front (a .shape .parties * r .row-length .result) (a .work .now) (x .check-hashes .last .1 .1 .1 .1 .1 .1 .0)
           (le-trans (most r) (lit≤ tt)) (start r .pre .1) (x .check-hashes .kept .1 .1 .1 .1 .1 .1 .0),
     )

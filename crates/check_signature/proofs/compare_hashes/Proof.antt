@@ -1,10 +1,9 @@
 -- `check_signature::compare_hashes` meets its contract. Assumes nothing.
 use mathlib.Core.Path.{_∙_}
-use Prim.Native.Nat.{_-_}
-use lib.ListN.{take, drop}
 use borrow.Author.Needs.{needs}
 use Rattle.stream.specs.Stream.{finished, squeezed}
 use Rattle.banquet.specs.declared.Answer.the-variants.{Accepted, FirstHashDiffers, ThirdHashDiffers}
+use Rattle.banquet.specs.Signature.{signatureH1, signatureH3}
 use Rattle.check_signature.proofs.Hashes.{refused, passed}
 use Rattle.check_signature.proofs.compare_hashes.Statement.{statement}
 use Rattle.check_signature.proofs.compare_hashes.Tie as tie
@@ -18,8 +17,8 @@ returns : tie.Need-returns
 returns c =
     let q = c .before in
     let a = start-before-equal q .args in
-    refused (squeezed (finished (a .t .first)) 32) (take (64 - 32) (drop 32 (a .s .now))) FirstHashDiffers _
-    ((q .before .before .before .before) .output .ensures) (q .equal .ensures) (c .if1 .taken)
+    refused (squeezed (finished (a .t .first)) 32) (signatureH1 (a .s .now)) FirstHashDiffers _
+    ((q .before .before .before .before) .output .ensures) (q .before .h1 .ensures) (q .equal .ensures) (c .if1 .taken)
 
 returns-2 : tie.Need-returns-2
 returns-2 c =
@@ -27,10 +26,10 @@ returns-2 c =
     let l = (r .before .before .before .before .before .before) in
     let q = l .before in
     let a = start-before-equal q .args in
-    refused (squeezed (finished (a .t .third)) 32) (take (96 - 64) (drop 64 (a .s .now))) ThirdHashDiffers Accepted
-    ((r .before .before .before .before) .output2 .ensures) (r .equal2 .ensures) (c .if2 .taken)
-    ∙ passed (squeezed (finished (a .t .first)) 32) (take (64 - 32) (drop 32 (a .s .now))) FirstHashDiffers _
-    ((q .before .before .before .before) .output .ensures) (q .equal .ensures) (l .if1 .left)
+    refused (squeezed (finished (a .t .third)) 32) (signatureH3 (a .s .now)) ThirdHashDiffers Accepted
+    ((r .before .before .before .before) .output2 .ensures) (r .before .h3 .ensures) (r .equal2 .ensures) (c .if2 .taken)
+    ∙ passed (squeezed (finished (a .t .first)) 32) (signatureH1 (a .s .now)) FirstHashDiffers _
+    ((q .before .before .before .before) .output .ensures) (q .before .h1 .ensures) (q .equal .ensures) (l .if1 .left)
 
 returns-3 : tie.Need-returns-3
 returns-3 c =
@@ -38,14 +37,13 @@ returns-3 c =
     let l = (r .before .before .before .before .before .before) in
     let q = l .before in
     let a = start-before-equal q .args in
-    passed (squeezed (finished (a .t .third)) 32) (take (96 - 64) (drop 64 (a .s .now))) ThirdHashDiffers Accepted
-    ((r .before .before .before .before) .output2 .ensures) (r .equal2 .ensures) (c .if2 .left)
-    ∙ passed (squeezed (finished (a .t .first)) 32) (take (64 - 32) (drop 32 (a .s .now))) FirstHashDiffers _
-    ((q .before .before .before .before) .output .ensures) (q .equal .ensures) (l .if1 .left)
+    passed (squeezed (finished (a .t .third)) 32) (signatureH3 (a .s .now)) ThirdHashDiffers Accepted
+    ((r .before .before .before .before) .output2 .ensures) (r .before .h3 .ensures) (r .equal2 .ensures) (c .if2 .left)
+    ∙ passed (squeezed (finished (a .t .first)) 32) (signatureH1 (a .s .now)) FirstHashDiffers _
+    ((q .before .before .before .before) .output .ensures) (q .before .h1 .ensures) (q .equal .ensures) (l .if1 .left)
 
 pub compare-hashes-spec : {M : Type 1} → statement M
 compare-hashes-spec =
     tie.close
-    (tie.spec (λ c. search needs) (λ c κs. search needs) (λ c. search needs) (λ c. search needs) (λ c. search needs) (λ c. search needs)
-    (λ c κs. search needs) returns (λ c. search needs) (λ c κs. search needs) (λ c. search needs) (λ c. search needs) (λ c. search needs)
-    (λ c. search needs) (λ c κs. search needs) returns-2 returns-3)
+    (tie.spec (λ c. search needs) (λ c κs. search needs) (λ c. search needs) (λ c κs. search needs) (λ c κs. search needs) returns
+    (λ c. search needs) (λ c κs. search needs) (λ c. search needs) (λ c κs. search needs) (λ c κs. search needs) returns-2 returns-3)

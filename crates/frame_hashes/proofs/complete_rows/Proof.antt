@@ -4,13 +4,15 @@ use mathlib.Core.List.{List, [], _++_}
 use Prim.Native.Nat.{ℕ, _+_, _-_, _*_, _≤_, zero-le}
 use native.Mathlib.Nat.{le-refl}
 use native.Mathlib.Omega.{arith}
-use lib.Dec.{lit≤}
 use lib.ListN.{length, take, drop, replicate}
-use Rattle.slices.specs.Lists.{rows, row}
+use Rattle.slices.specs.Lists.{rows, row, put}
 use Rattle.slices.specs.Layout.{total}
-use Rattle.slices.proofs.Put.{Wrote, wrote-none, wrote-more, front-long, cut-long}
+use Rattle.slices.proofs.Put.{Wrote, wrote-none, wrote-more, front-long}
 use Rattle.complete.specs.Complete.{completedRow}
+use Rattle.banquet.specs.Sets.{schemeOf}
+use Rattle.banquet.specs.Key.{ciphertextOf}
 use Rattle.sets.specs.Bounds.{rowSizes, row-most}
+use Rattle.sets.specs.PublicKey.{ciphertext-long}
 use Rattle.frame_hashes.proofs.Laws.{sums-long, whole-written}
 use Rattle.frame_hashes.proofs.complete_rows.Statement.{statement}
 use Rattle.frame_hashes.proofs.complete_rows.Tie as tie
@@ -35,7 +37,7 @@ module _ (z : tie.After-row-length) where
   at = length (start .args .frame .now) - (len - 16)
 
   abbrev cipher : List ℕ
-  cipher = take (32 - 16) (drop 16 (start .args .public .now))
+  cipher = ciphertextOf (schemeOf (start .args .shape)) (start .args .public .now)
 
   abbrev last : List ℕ
   last = take (length (start .args .frame .now) - at) (drop at (start .args .frame .now))
@@ -52,11 +54,8 @@ module _ (z : tie.After-row-length) where
   within : len - 16 ≤ length (start .args .frame .now)
   within = omega (arith, start .pre .3, z .row-length .ensures .0)
 
-  cipher-room : 32 ≤ length (start .args .public .now)
-  cipher-room = omega (arith, start .pre .1)
-
-  cipher-long : length cipher ≡ 16
-  cipher-long = cut-long 16 32 (start .args .public .now) refl cipher-room
+  cipher-long : {c : List ℕ} → c ≡ cipher → length c ≡ 16
+  cipher-long = ciphertext-long (start .args .shape) (start .args .public .now) (start .pre .1)
 
   last-long : length last ≡ len - 16
   last-long = sums-long (start .args .shape) (start .args .frame .now) (start .pre .3) (z .row-length .ensures .0)
@@ -68,7 +67,9 @@ module _ (x : tie.After-copy-at) where
   begun = (x .before .before .before)
 
   wrote1 : Wrote (zeros begun) ([] ++ cipher begun) (0 + 16) (x .copy-at .last .0)
-  wrote1 = wrote-more (cipher begun) (wrote-none (zeros begun)) (cipher-long begun) (x .copy-at .ensures) (x .copy-at .kept .0)
+  wrote1 =
+      wrote-more (cipher begun) (wrote-none (zeros begun)) (cipher-long begun refl)
+      (x .copy-at .ensures ∙ ap (put (zeros begun) 0) (x .before .ciphertext .ensures)) (x .copy-at .kept .0)
 
 module _ (y : tie.After-copy-at2) where
   abbrev first : tie.After-copy-at
@@ -112,13 +113,13 @@ returns c =
     let p = s y .pre in
     (c .before .before .before) .complete .ensures .0
     ∙ ap₂ (λ (w : List ℕ) (n : ℕ). rows (completedRow (a .shape .parties) (a .hidden) w (λ i. row n i (a .rows .now))) (a .shape .parties))
-    (whole-written (a .shape) (a .frame .now) (p .3) (z y .row-length .ensures .0) (p .0) (a .public .now) (p .1) (wrote2 y)) (whole-long y)
+    (whole-written (a .shape) (a .frame .now) (p .3) (z y .row-length .ensures .0) (a .public .now) (wrote2 y)) (whole-long y)
 
 pub complete-rows-spec : {M : Type 1} → statement M
 complete-rows-spec =
     tie.close
-    (tie.spec (λ c κs. (c .before .before .before) .pre .0) least (λ c. refl) (λ c. lit≤ tt) (λ c. lit≤ tt) (λ c. cipher-room (c .before))
-    (λ c κs. omega (arith, cipher-long (c .before .before))) (λ c. sym ((c .before .before) .copy-at .kept .0))
+    (tie.spec (λ c κs. (c .before .before .before) .pre .0) least (λ c. refl) (λ c κs. start (c .before) .pre .1)
+    (λ c κs. omega (arith, cipher-long (c .before .before) (c .ciphertext .ensures))) (λ c. sym ((c .before .before) .copy-at .kept .0))
     (λ c. within (c .before .before .before .before .before)) (λ c. rest-le _ _) (λ c. rest-le _ _) (λ c. le-refl _) copy-at-requires-2
     (λ c. zero-le) (λ c. zero-le) (λ c. room (c .before .before)) (λ c. zero-le) (λ c. zero-le) (λ c. omega (arith, most (z (c .before .before .before))))
     complete-requires (λ c. (c .before .before .before) .complete .kept .1 .1 .1 .1 .0) returns)

@@ -3,7 +3,7 @@ use mathlib.Core.Path.{_≡_, refl, sym, _∙_}
 use mathlib.Core.List.{List}
 use Prim.Native.Nat.{ℕ, _-_, _*_, _^_, _≤_, zero-le}
 use native.Mathlib.Omega.{arith}
-use lib.Dec.{lit<, lit≤}
+use lib.Dec.{lit<}
 use lib.ListN.{length, getD, take, replicate}
 use borrow.Rule.Slice.PartMut.{putMid, same-len-mid}
 use Rattle.slices.proofs.Put.{front-long as front-part}
@@ -14,9 +14,10 @@ use Rattle.banquet.specs.Sets.{schemeOf}
 use Rattle.banquet.specs.Signature.{framePart}
 use Rattle.sets.specs.Valid.{Valid}
 use Rattle.sets.specs.Bounds.{leaves-most}
+use Rattle.sets.specs.PublicKey.{front-long}
 use Rattle.frames.specs.Frames.{part-long}
 use Rattle.frame_hashes.proofs.Bound.{commitments-shown, rows-shown}
-use Rattle.frame_hashes.proofs.Laws.{public-long, front-long, rows-completed}
+use Rattle.frame_hashes.proofs.Laws.{rows-completed}
 use Rattle.frame_hashes.proofs.frame_rows.Statement.{statement}
 use Rattle.frame_hashes.proofs.frame_rows.Tie as tie
 
@@ -112,7 +113,7 @@ share-rows-requires c κs =
       g .valid,
       g .salt-size,
       room x,
-      front-long g,
+      front-long (s x .args .shape) (s x .args .public .now) (g .public-sized .size) (f .before .before .before .front .ensures),
       size (begun x) 2 (f .before .before .part3 .ensures),
       size (begun x) 3 (f .before .part4 .ensures),
       g .first-sized .size,
@@ -129,7 +130,7 @@ complete-rows-requires : tie.Need-complete-rows-requires
 complete-rows-requires c κs =
     let r = c .before .before .before in
     let p = entry (copied r) .pre in
-    let g = p .0 in (g .valid, public-long g, g .hidden-below, g .frame-sized .size, rows-kept r ∙ p .2)
+    let g = p .0 in (g .valid, g .public-sized .size, g .hidden-below, g .frame-sized .size, rows-kept r ∙ p .2)
 
 -- the rows before they are completed
 abbrev shared : tie.After-complete-rows → tie.After-share-rows
@@ -149,7 +150,8 @@ returns c =
       commitments-shown g (a .e) (begun x .leaf-bytes .result) zeros siblings (size (begun x) 0 siblings) (x .expand-shown .ensures) (leaves-long x)
           hidden (size (begun x) 1 hidden) (hashed y .hash-rows .ensures) (y .copy-at .ensures),
       rows-shown g (a .e) (begun x .leaf-bytes .result) zeros siblings (size (begun x) 0 siblings) (x .expand-shown .ensures) (leaves-long x)
-          (rows-completed g (a .e) (seeds x) refl (f .before .before .part3 .ensures) (f .before .part4 .ensures) (f .part5 .ensures)
+          (rows-completed g (a .e) (seeds x) (f .before .before .before .front .ensures) (f .before .before .part3 .ensures)
+          (f .before .part4 .ensures) (f .part5 .ensures)
           (r .share-rows .ensures) (w .complete-rows .ensures)),
     )
 
@@ -159,8 +161,8 @@ frame-rows-spec =
     (tie.spec (λ c κs. c .before .before .before .before .before .before .pre .0 .valid) (λ l κs. (asked l .0, lit< tt, asked l .1)) (λ c. zero-le)
     (λ c. zero-le) (λ c. c .before .leaf-bytes .ensures .1) expand-shown-requires (λ c. sym (seeds-long (c .before .before))) hash-rows-requires
     (λ c. let g = s (expanded (c .before .before .before)) .pre .0 in omega (arith, g .hidden-below, g .valid .few))
-    (λ c κs. let l = begun (expanded (c .before .before .before)) in (asked l .0, lit< tt, asked l .1)) copy-at-requires (λ c. lit≤ tt) (λ c. lit≤ tt)
-    (λ c. omega (arith, public-long (entry (c .before .before) .pre .0)))
+    (λ c κs. let l = begun (expanded (c .before .before .before)) in (asked l .0, lit< tt, asked l .1)) copy-at-requires
+    (λ c κs. entry (c .before .before) .pre .0 .public-sized .size)
     (λ c κs. let l = begun (expanded (hashed (c .before .before .before))) in (asked l .0, lit< tt, asked l .1))
     (λ c κs. let l = begun (expanded (hashed (c .before .before .before .before))) in (asked l .0, lit< tt, asked l .1))
     (λ c κs. let l = begun (expanded (hashed (c .before .before .before .before .before))) in (asked l .0, lit< tt, asked l .1)) share-rows-requires

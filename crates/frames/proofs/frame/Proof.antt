@@ -5,7 +5,7 @@ use native.Mathlib.Omega.{arith}
 use lib.ListN.{length}
 use borrow.Author.Needs.{needs}
 use Rattle.slices.specs.Layout.{total}
-use Rattle.banquet.specs.Shape.{frameSizes}
+use Rattle.banquet.specs.Shape.{headLength, frameSizes}
 use Rattle.frames.proofs.Laws.{of-another-length, none-such, ends-within, framed}
 use Rattle.frames.proofs.frame.Statement.{statement}
 use Rattle.frames.proofs.frame.Tie as tie
@@ -37,7 +37,7 @@ module _ (c : tie.Else2) where
   abbrev lengths : tie.Else1
   lengths = c .before .before
 
-  fits : 96 + start (lengths .before) .args .e * lengths .before .before .frame-length .result + lengths .before .before .frame-length .result
+  fits : headLength + start (lengths .before) .args .e * lengths .before .before .frame-length .result + lengths .before .before .frame-length .result
       ≤ length (start (lengths .before) .args .s .now)
   fits =
       let w = lengths .before in

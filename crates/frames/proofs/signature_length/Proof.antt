@@ -4,7 +4,7 @@ use Prim.Native.Nat.{_+_, _*_, _≤_}
 use native.Mathlib.Omega.{arith}
 use borrow.Author.Needs.{needs}
 use Rattle.slices.specs.Layout.{total}
-use Rattle.banquet.specs.Shape.{frameSizes}
+use Rattle.banquet.specs.Shape.{headLength, frameSizes}
 use Rattle.frames.specs.Frames.{frames-most}
 use Rattle.frames.proofs.signature_length.Statement.{statement}
 use Rattle.frames.proofs.signature_length.Tie as tie
@@ -24,4 +24,4 @@ pub signature-length-spec : {M : Type 1} → statement M
 signature-length-spec =
     tie.close
     (tie.spec (λ c κs. search needs) (λ c. omega (arith, most (c .before))) (λ c. omega (arith, most (c .before)))
-    (λ c. (ap (96 +_) (frames (c .before)), omega (arith, most (c .before)))))
+    (λ c. (ap (headLength +_) (frames (c .before)), omega (arith, most (c .before)))))

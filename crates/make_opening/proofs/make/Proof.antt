@@ -5,6 +5,7 @@ use native.Mathlib.Nat.{le-trans}
 use lib.ListN.{length, take, replicate}
 use lib.Dec.{lit≤}
 use borrow.Rule.Slice.PartMut.{same-len-mid}
+use Rattle.banquet.specs.Shape.{workLength}
 use Rattle.slices.proofs.Counts.{in-word}
 use Rattle.sets.specs.Bounds.{by-points, rows-most}
 use Rattle.scratch.proofs.Laws.{scratch-front, front-output}
@@ -61,7 +62,7 @@ sized c = c .before .before .before .before .before .before .before
 seeds-fit : (c : tie.After-leaf-bytes) → c .leaf-bytes .result ≤ 2048
 seeds-fit c = c .leaf-bytes .ensures .1
 
-rows-fit : (c : tie.After-row-length) → begun c .args .shape .parties * c .row-length .result ≤ 65536
+rows-fit : (c : tie.After-row-length) → begun c .args .shape .parties * c .row-length .result ≤ workLength
 rows-fit c = le-trans (rows-most (begun c .pre .0 .valid) (c .row-length .ensures .1)) (lit≤ tt)
 
 opening-fits : (c : tie.After-opening-length) → c .opening-length .result ≤ length (begun (rowed c) .args .out .now)

@@ -2,11 +2,11 @@
 use mathlib.Core.Path.{_≡_, refl, sym, ap, _∙_}
 use Prim.Native.Nat.{ℕ, _-_, _*_, _≤_, zero-le}
 use lib.ListN.{length, take, replicate}
-use lib.Seq.{length-take-le}
 use Rattle.banquet.specs.Shape.{sboxes}
-use Rattle.party_shares.proofs.Laws.{front-long}
+use Rattle.party_shares.proofs.Laws.{front-long as part-long}
 use Rattle.sets.specs.Bounds.{party-byte}
-use Rattle.make_opening.proofs.Laws.{front-room, seeds-long, inverses-long, inverses-room, points-long}
+use Rattle.sets.specs.PublicKey.{front-long}
+use Rattle.make_opening.proofs.Laws.{seeds-long, inverses-long, inverses-room, points-long}
 use Rattle.make_opening.proofs.Made.{opening-made}
 use Rattle.make_opening.proofs.make_shares.Statement.{statement}
 use Rattle.make_opening.proofs.make_shares.Tie as tie
@@ -23,7 +23,7 @@ offsets-before-product-offsets c = c .before .before .before .before .before .be
 abbrev start : tie.After-offsets → tie.Start
 start c = c .before .before .before .before .before .before .before .before .before .before .before .before .before .before .before .before .before .before
 
-abbrev offset : tie.After-share-rows-arg2 → tie.After-offsets
+abbrev offset : tie.After-share-rows-arg → tie.After-offsets
 offset c = c .before .before .before .before .before .before .before .before .before .before
 
 abbrev shared : tie.After-write-arg2 → tie.After-share-rows
@@ -38,7 +38,7 @@ inverses : (s : tie.Start) → length (s .args .inverses .now) ≡ sboxes (s .ar
 inverses s = inverses-long (s .pre .0 .valid) (s .args .key .now) (s .args .public .now) (s .pre .2 .inverses-is)
 
 lent : (s : tie.Start) → length {A = ℕ} (take (length (s .args .inverses .now) - 0) (replicate 200 0)) ≡ sboxes (s .args .shape)
-lent s = front-long (replicate 200 0) (inverses s) (inverses-room (s .pre .0 .valid) (inverses s))
+lent s = part-long (replicate 200 0) (inverses s) (inverses-room (s .pre .0 .valid) (inverses s))
 
 offsets-requires : tie.Need-offsets-requires
 offsets-requires c κs =
@@ -64,7 +64,7 @@ share-rows-requires c κs =
       p .0 .valid,
       p .0 .salt-size,
       long s,
-      length-take-le 16 (s .args .public .now) (front-room (p .0 .public-size)) ∙ sym (p .0 .valid .plaintext),
+      front-long (s .args .shape) (s .args .public .now) (p .0 .public-size) (c .before .front .ensures),
       k .1 .1 .1 .1 .1 .1 .1 .1 .1 .1 .0,
       k .1 .1 .1 .1 .1 .1 .1 .1 .1 .1 .1 .0 ∙ lent s,
       p .0 .first-size,
@@ -103,14 +103,15 @@ returns c =
     let p = s .pre in
     let o = at-offsets .offsets .ensures in
     opening-made (p .0 .valid) (a .key .now) (a .public .now) (a .salt .now) (a .root .now) (a .first .now) (a .seeds .now) (a .e) (a .second) (a .hidden)
-    (p .0 .root-size) (p .3) (p .2) (o .0) (o .1 .0) (o .1 .1) (at-share-rows .share-rows .ensures) (at-write .write .ensures)
+    (p .0 .root-size) (p .3) (p .2) (o .0) (o .1 .0) (o .1 .1) (at-share-rows .before .before .front .ensures)
+    (at-share-rows .share-rows .ensures) (at-write .write .ensures)
 
 pub make-shares-spec : {M : Type 1} → statement M
 make-shares-spec =
     tie.close
     (tie.spec (λ c. zero-le) (λ c. zero-le) (λ c. let s = start-before-slice-known3 c in inverses-room (s .pre .0 .valid) (inverses s))
     (λ c. refl) offsets-requires (λ c. sym (c .before .before .before .before .before .before .offsets .kept .1 .1 .1 .1 .1 .1 .1 .1 .1 .1 .0))
-    (λ c. zero-le) (λ c. zero-le) (λ c. front-room (start (offsets-before-product-offsets c) .pre .0 .public-size)) share-rows-requires write-requires
+    (λ c κs. start (offsets-before-product-offsets c) .pre .0 .public-size) share-rows-requires write-requires
     (λ c. offset (shared (c .before .before .before .before) .before) .offsets .kept .1 .1 .1 .1 .1 .1 .1 .1 .1 .1 .1 .1 .0)
     (λ c. shared (c .before .before .before .before) .share-rows .kept .1 .1 .1 .1 .1 .1 .1 .1 .1 .1 .0)
     (λ c. c .before .before .before .write .kept .1 .1 .1 .1 .1 .1 .1 .1 .1 .1 .1 .1 .0) returns)

@@ -3,13 +3,16 @@ use mathlib.Core.Path.{_≡_, refl, ap, _∙_}
 use mathlib.Core.List.{List, _++_}
 use Prim.Native.Nat.{ℕ, _*_, _+_, _-_, _≤_}
 use native.Mathlib.Omega.{arith}
-use lib.ListN.{length, take, replicate, length-take}
+use lib.ListN.{length, take, replicate}
 use borrow.Rule.Slice.PartMut.{same-len-mid}
 use Rattle.slices.specs.Bytes.{bytes-of, append-bytes}
-use Rattle.slices.proofs.Put.{front-long}
+use Rattle.slices.proofs.Put.{front-long as part-long}
 use Rattle.scratch.proofs.Laws.{scratch-front}
+use Rattle.banquet.specs.Sets.{schemeOf}
+use Rattle.banquet.specs.Key.{frontOf}
 use Rattle.sets.specs.Valid.{Valid}
 use Rattle.sets.specs.Bounds.{all-sboxes, tapes-most}
+use Rattle.sets.specs.PublicKey.{front-long}
 use Rattle.signing.specs.Steps.{witnessLength}
 use Rattle.make_signature.proofs.Laws.{joined-lists, parties-lent}
 use Rattle.make_signature.proofs.Hashes.{first-hashed, begun-right}
@@ -21,8 +24,8 @@ use Rattle.make_signature.proofs.commit_pass.Tie as tie
 abbrev salt-known-before-copy-at2 : tie.After-copy-at2 → tie.After-shared-slice-known5
 salt-known-before-copy-at2 c = c .before .before .before .before .before .before .before .before .before .before .before .before
 
-abbrev copy-at2-before-commit-frames-arg3 : tie.After-commit-frames-arg3 → tie.After-copy-at2
-copy-at2-before-commit-frames-arg3 c = c .before .before .before .before .before .before .before
+abbrev copy-at2-before-commit-frames-arg2 : tie.After-commit-frames-arg2 → tie.After-copy-at2
+copy-at2-before-commit-frames-arg2 c = c .before .before .before .before .before .before .before
 
 abbrev commit-frames-before-h2 : tie.After-h2 → tie.After-commit-frames
 commit-frames-before-h2 c = c .before .before .before .before .before .before .before .before
@@ -36,8 +39,8 @@ tape-length-before-copy-at-arg2 c = c .before .before .before .before .before .b
 abbrev start-before-slice-known4 : tie.After-slice-known4 → tie.Start
 start-before-slice-known4 c = start-before-slice-known2 (tape-length-before-copy-at-arg2 (c .before .before .before) .before)
 
-abbrev tape-length-before-commit-frames-arg2 : tie.After-commit-frames-arg2 → tie.After-tape-length
-tape-length-before-commit-frames-arg2 c = c .before .before .before .before .before .before .before .before .before .before .before .before .before .before
+abbrev tape-length-before-commit-frames-arg : tie.After-commit-frames-arg → tie.After-tape-length
+tape-length-before-commit-frames-arg c = c .before .before .before .before .before .before .before .before .before .before .before .before .before .before
 
 valid : (s : tie.Start) → Valid (s .args .shape)
 valid s = s .pre .0 .valid
@@ -59,7 +62,7 @@ module _ (m : tie.After-tape-length) where
   room = omega (arith, all-in, all-sboxes (valid start), valid start .columns)
 
   zeros-long : length zeros ≡ 16 + length (start .args .inverses .now)
-  zeros-long = let array : List ℕ = replicate 216 0 in front-long (16 + length (start .args .inverses .now)) array room
+  zeros-long = let array : List ℕ = replicate 216 0 in part-long (16 + length (start .args .inverses .now)) array room
 
 module _ (w : tie.After-copy-at2) where
   abbrev measured : tie.After-tape-length
@@ -81,14 +84,14 @@ module _ (w : tie.After-copy-at2) where
 
 commit-frames-requires : tie.Need-commit-frames-requires
 commit-frames-requires c κs =
-    let w = copy-at2-before-commit-frames-arg3 c in
+    let w = copy-at2-before-commit-frames-arg2 c in
     let m = measured w in
     let s = start m in
     let p = s .pre in (
       valid s,
       p .4,
       p .5,
-      omega (arith, length-take 16 (s .args .public .now), p .3, valid s .plaintext),
+      front-long (s .args .shape) (s .args .public .now) (p .3) (c .before .before .before .front .ensures),
       witness-long w,
       p .0 .frames-size,
       parties-lent (valid s) (m .tape-length .ensures .0) (m .tape-length .ensures .1) (s .args .work .now) (p .6),
@@ -115,9 +118,10 @@ returns c =
     let k = s .pre in
     let a = s .args in
     let known = salt-known-before-copy-at2 w in
-    let front = take 16 (a .public .now) in (
+    let front-is = x .before .before .before .before .front .ensures in (
       c .before .output .ensures
-          ∙ first-hashed (valid s) (witness-is w) front (a .roots .now) (bytes-of (known .before .before .shared-slice-known3 .given))
+          ∙ first-hashed (valid s) (witness-is w) (frontOf (schemeOf (a .shape)) (a .public .now)) (a .roots .now) front-is
+          (bytes-of (known .before .before .shared-slice-known3 .given))
           (bytes-of (known .before .shared-slice-known4 .given)) (bytes-of (known .shared-slice-known5 .given))
           (append-bytes {xs = a .key .now} {ys = a .inverses .now} (bytes-of (known .before .before .before .before .shared-slice-known .given))
           (bytes-of (known .before .before .before .shared-slice-known2 .given)))
@@ -141,13 +145,11 @@ commit-pass-spec =
     (λ c. room (c .before))
     (λ c κs. let m = c .before .before .before in omega (arith, zeros-long m, start m .pre .1))
     (λ c κs. omega (arith, c .before .before .before .copy-at .kept .0, zeros-long (tape-length-before-copy-at-arg2 c)))
-    (λ c κs. start-before-slice-known4 c .pre .3)
+    (λ c κs. tt)
+    (λ c κs. start-before-slice-known4 (c .before) .pre .3)
     (λ c. omega arith)
     (λ c. omega arith)
-    (λ c. omega (arith, start-before-slice-known4 (c .before) .pre .3))
-    (λ c. omega arith)
-    (λ c. omega arith)
-    (λ c. let m = tape-length-before-commit-frames-arg2 c in omega (arith, tapes-most (valid (start m)) (m .tape-length .ensures .1), start m .pre .6))
+    (λ c. let m = tape-length-before-commit-frames-arg c in omega (arith, tapes-most (valid (start m)) (m .tape-length .ensures .1), start m .pre .6))
     commit-frames-requires
     (λ c. refl)
     (λ c κs. tt)

@@ -12,9 +12,6 @@ use Rattle.make_signature.proofs.finish_pass.Tie as tie
 
 -- ---- earlier moments
 
-abbrev start-before-draw-arg : tie.After-draw-arg → tie.Start
-start-before-draw-arg c = c .before .before .before .before .before .before .before
-
 abbrev zeros : List ℕ
 zeros = replicate 164 0
 
@@ -54,7 +51,7 @@ finish-pass-spec =
     (λ c. omega arith)
     (λ c. omega arith)
     (λ c. omega (arith, c .before .before .before .before .before .pre .0 .valid .brief))
-    (λ c κs. start-before-draw-arg c .pre .3)
+    (λ c κs. tt)
     finish-frames-requires
     (λ c. c .before .before .before .finish-frames .kept .1 .1 .1 .1 .0)
     returns)

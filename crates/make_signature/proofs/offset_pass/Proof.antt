@@ -121,7 +121,7 @@ pub offset-pass-spec : {M : Type 1} → statement M
 offset-pass-spec =
     tie.close
     (tie.spec
-    (λ c κs. c .before .before .before .before .before .before .pre .3)
+    (λ c κs. tt)
     (λ c. omega (arith, valid (start-before-struct-known c) .columns))
     (λ c. omega arith)
     (λ c. omega arith)
@@ -135,7 +135,7 @@ offset-pass-spec =
     offset-frames-requires
     (λ c κs. valid (start (true-rows-before-slice-known6 c)))
     (λ f κs. (valid (entry f), lit< tt))
-    (λ o κs. entry (o .before) .pre .3)
+    (λ o κs. tt)
     (λ c. omega (arith, valid (entry (c .before .before .before)) .wide-most))
     absorb-column-requires
     (λ c. refl)

@@ -5,13 +5,16 @@ use Prim.Native.Nat.{ℕ, _*_, _-_}
 use native.Mathlib.Nat.{le-trans}
 use native.Mathlib.Omega.{arith}
 use lib.Dec.{lit≤}
-use lib.ListN.{length, take, replicate, length-take}
+use lib.ListN.{length, take, replicate}
 use borrow.Rule.Slice.PartMut.{same-len-mid}
 use Rattle.slices.specs.Bytes.{bytes-of}
-use Rattle.slices.proofs.Put.{front-long}
+use Rattle.slices.proofs.Put.{front-long as part-long}
 use Rattle.shake.specs.Shake128.{shake128}
 use Rattle.scratch.proofs.Laws.{scratch-front}
+use Rattle.banquet.specs.Sets.{schemeOf}
+use Rattle.banquet.specs.Key.{frontOf}
 use Rattle.sets.specs.Valid.{Valid}
+use Rattle.sets.specs.PublicKey.{front-long}
 use Rattle.sets.specs.Bounds.{rows-most, seconds-most}
 use Rattle.make_signature.proofs.Laws.{parties-lent}
 use Rattle.make_signature.proofs.Hashes.{opened-right, third-hashed}
@@ -23,8 +26,8 @@ use Rattle.make_signature.proofs.open_pass.Tie as tie
 abbrev h2-known-before-draw : tie.After-draw → tie.After-shared-slice-known4
 h2-known-before-draw c = c .before .before .before .before .before .before .before .before .before
 
-abbrev draw-before-open-frames-arg3 : tie.After-open-frames-arg3 → tie.After-draw
-draw-before-open-frames-arg3 c = c .before .before .before .before .before .before .before
+abbrev draw-before-open-frames-arg2 : tie.After-open-frames-arg2 → tie.After-draw
+draw-before-open-frames-arg2 c = c .before .before .before .before .before .before .before
 
 abbrev open-frames-before-h2 : tie.After-h2 → tie.After-open-frames
 open-frames-before-h2 c = c .before .before .before .before .before .before .before .before
@@ -54,20 +57,20 @@ module _ (d : tie.After-draw) where
   size = start .args .shape .executions * start .args .shape .wide
 
   asked : length (take (size - 0) zeros) ≡ size
-  asked = front-long size zeros (omega (arith, seconds-most (valid start)))
+  asked = part-long size zeros (omega (arith, seconds-most (valid start)))
 
   seconds-are : d .draw .last .1 .1 .0 ≡ shake128 (7 ∷ start .args .h2 .now) size
   seconds-are = d .draw .ensures ∙ ap (shake128 (7 ∷ start .args .h2 .now)) asked
 
 open-frames-requires : tie.Need-open-frames-requires
 open-frames-requires c κs =
-    let d = draw-before-open-frames-arg3 c in
+    let d = draw-before-open-frames-arg2 c in
     let s = start d in
     let p = s .pre in (
       valid s,
       p .2,
       p .3,
-      omega (arith, length-take 16 (s .args .public .now), p .1, valid s .plaintext),
+      front-long (s .args .shape) (s .args .public .now) (p .1) (c .before .before .before .front .ensures),
       p .5,
       d .draw .kept .1 .1 .0 ∙ asked d,
       p .0 .frames-size,
@@ -93,13 +96,15 @@ returns c =
     let d = drawn x in
     let s = entry x in
     let a = s .args in
-    let front = take 16 (a .public .now) in (
+    let front-is = x .before .before .before .before .front .ensures in (
       c .before .output .ensures
-          ∙ third-hashed (valid s) (a .h2 .now) (seconds-are d) front (a .salt .now) (a .roots .now) (a .firsts .now) (a .frames .now)
+          ∙ third-hashed (valid s) (a .h2 .now) (seconds-are d) (frontOf (schemeOf (a .shape)) (a .public .now)) (a .salt .now) (a .roots .now)
+          (a .firsts .now) (a .frames .now) front-is
           (bytes-of (h2-known-before-draw d .shared-slice-known4 .given)) (x .before .before .before .before .before .tagged .ensures)
           (x .open-frames .ensures .1),
       (
-        opened-right (valid s) (a .h2 .now) (seconds-are d) front (a .salt .now) (a .roots .now) (a .firsts .now) (a .frames .now)
+        opened-right (valid s) (a .h2 .now) (seconds-are d) (frontOf (schemeOf (a .shape)) (a .public .now)) (a .salt .now) (a .roots .now)
+            (a .firsts .now) (a .frames .now) front-is
             (x .open-frames .ensures .0),
         scratch-front (lent x) (a .work .now) (x .open-frames .last .1 .1 .1 .1 .1 .1 .1 .0)
             (omega (arith, rows-most (valid s) (sized d .row-length .ensures .1))) (s .pre .6) (x .open-frames .kept .1 .1 .1 .1 .1 .1 .1 .0),
@@ -116,11 +121,9 @@ open-pass-spec =
     (λ c. omega arith)
     (λ c. omega arith)
     (λ c. omega (arith, seconds-most (valid (start-before-struct-known (c .before .before)))))
-    (λ c κs. start-before-struct-known (c .before .before .before .before) .pre .4)
-    (λ c κs. start-before-slice-known3 c .pre .4)
-    (λ c. omega arith)
-    (λ c. omega arith)
-    (λ c. omega (arith, start-before-slice-known3 (c .before) .pre .1))
+    (λ c κs. tt)
+    (λ c κs. tt)
+    (λ c κs. start-before-slice-known3 (c .before) .pre .1)
     (λ c. omega arith)
     (λ c. omega arith)
     (λ c. let d = c .before .before .before .before .before .before in

@@ -1,126 +1,87 @@
 -- `open_execution::open_execution` meets its contract: the lengths are tested in order. Assumes nothing.
-use mathlib.Core.Path.{subst}
-use Prim.Native.Nat.{_≤_, _<_}
-use native.Mathlib.Omega.{arith}
+use mathlib.Core.Path.{_≡_, refl, sym, ap, _∙_}
+use mathlib.Core.Bool.{true}
+use mathlib.Core.List.{List}
+use Prim.Native.Nat.{ℕ}
 use lib.ListN.{length}
-use Rattle.sets.specs.Bounds.{columns-most}
-use Rattle.open_execution.specs.Answers.{key-refused, public-refused, salt-refused, first-refused, root-refused, output-refused, work-refused}
+use borrow.Author.Tests.{eqb-true, leb-true}
+use borrow.Author.Needs.{needs}
+use Rattle.banquet.specs.declared.Answer.{Answer}
+use Rattle.banquet.specs.declared.Answer.the-variants.{Accepted}
+use Rattle.banquet.specs.Answer.{Test, inOrder}
+use Rattle.banquet.specs.Key.{checkKey}
+use Rattle.banquet.specs.Opening.{rangeTests, opening}
+use Rattle.banquet.specs.Sets.{schemeOf}
+use Rattle.banquet.specs.Calls.{openTests, madeAfter, openAnswer}
+use Rattle.banquet.specs.Refusals.{testAt, passed-at}
+use Rattle.verdict.specs.Tests.{made-refused, passes}
 use Rattle.open_execution.proofs.open_execution.Statement.{statement}
 use Rattle.open_execution.proofs.open_execution.Tie as tie
 
+-- where the lengths have been tested
+module _ (l : tie.After-open) where
+  abbrev start : tie.Start
+  start = l .before .before .before .before .before .before .before .before
+
+  abbrev tests : List Test
+  tests =
+      let a = start .args in
+      openTests (a .shape) (length (a .key .now)) (length (a .public .now)) (length (a .salt .now)) (length (a .root .now))
+      (length (a .first .now)) (length (a .out .now)) (length (a .work .now))
+
+  -- what the numbers and the key answer, and the opening
+  abbrev keyed : Answer
+  keyed =
+      let a = start .args in
+      inOrder (rangeTests (a .shape) (a .e) (a .hidden) (a .second)) (checkKey (schemeOf (a .shape)) (a .public .now) (a .key .now) Accepted)
+
+  abbrev file : List ℕ
+  file =
+      let a = start .args in
+      opening (schemeOf (a .shape)) (a .key .now) (a .public .now) (a .salt .now) (a .root .now) (a .first .now) (a .e) (a .second) (a .hidden)
+
 returns : tie.Need-returns
+unfolding openAnswer
 returns c =
-    let s = c .before .before .before .before .before .before .before .before in
-    let a = s .args in
-    key-refused (s .pre .0) (a .key .now) (a .public .now) (a .salt .now) (a .root .now) (a .first .now) (a .e) (a .second) (a .hidden) (a .out .now) (a .work .now)
-    (c .if1 .taken)
+    let l = c .before in
+    let a = start l .args in
+    made-refused (tests l) refl (l .open .ensures) (c .match .keys2) (keyed l) (file l) (a .out .now) (a .work .now)
 
-returns-2 : tie.Need-returns-2
-returns-2 c =
-    let test1 = c .before in
-    let s = test1 .before .before .before .before .before .before .before .before in
-    let a = s .args in
-    public-refused (s .pre .0) (a .key .now) (a .public .now) (a .salt .now) (a .root .now) (a .first .now) (a .e) (a .second) (a .hidden) (a .out .now) (a .work .now)
-    (test1 .if1 .left) (c .if2 .taken)
+-- they are right
+module _ (g : tie.After-enum-told) where
+  abbrev tested : tie.After-open
+  tested = g .before .before
 
-returns-3 : tie.Need-returns-3
-returns-3 c =
-    let test2 = c .before in
-    let test1 = test2 .before in
-    let s = test1 .before .before .before .before .before .before .before .before in
-    let a = s .args in
-    salt-refused (s .pre .0) (a .key .now) (a .public .now) (a .salt .now) (a .root .now) (a .first .now) (a .e) (a .second) (a .hidden) (a .out .now) (a .work .now)
-    (test1 .if1 .left) (test2 .if2 .left) (c .if3 .taken)
-
-returns-4 : tie.Need-returns-4
-returns-4 c =
-    let test3 = c .before .before in
-    let test2 = test3 .before in
-    let test1 = test2 .before in
-    let s = test1 .before .before .before .before .before .before .before .before in
-    let a = s .args in
-    first-refused (s .pre .0) (a .key .now) (a .public .now) (a .salt .now) (a .root .now) (a .first .now) (a .e) (a .second) (a .hidden) (a .out .now) (a .work .now)
-    (test1 .if1 .left) (test2 .if2 .left) (test3 .if3 .left) (c .if4 .taken)
-
-returns-5 : tie.Need-returns-5
-returns-5 c =
-    let test4 = c .before in
-    let test3 = test4 .before .before in
-    let test2 = test3 .before in
-    let test1 = test2 .before in
-    let s = test1 .before .before .before .before .before .before .before .before in
-    let a = s .args in
-    root-refused (s .pre .0) (a .key .now) (a .public .now) (a .salt .now) (a .root .now) (a .first .now) (a .e) (a .second) (a .hidden) (a .out .now) (a .work .now)
-    (test1 .if1 .left) (test2 .if2 .left) (test3 .if3 .left) (test4 .if4 .left) (c .if5 .taken)
-
-returns-6 : tie.Need-returns-6
-returns-6 c =
-    let at-opening-length = c .before in
-    let test5 = at-opening-length .before in
-    let test4 = test5 .before in
-    let test3 = test4 .before .before in
-    let test2 = test3 .before in
-    let test1 = test2 .before in
-    let s = test1 .before .before .before .before .before .before .before .before in
-    let a = s .args in
-    output-refused (s .pre .0) (a .key .now) (a .public .now) (a .salt .now) (a .root .now) (a .first .now) (a .e) (a .second) (a .hidden) (a .out .now) (a .work .now)
-    (test1 .if1 .left) (test2 .if2 .left) (test3 .if3 .left) (test4 .if4 .left) (test5 .if5 .left) (subst (length (a .out .now) <_) (at-opening-length .opening-length .ensures .0) (c .if6 .taken))
-
-returns-7 : tie.Need-returns-7
-returns-7 c =
-    let test6 = c .before in
-    let at-opening-length = test6 .before in
-    let test5 = at-opening-length .before in
-    let test4 = test5 .before in
-    let test3 = test4 .before .before in
-    let test2 = test3 .before in
-    let test1 = test2 .before in
-    let s = test1 .before .before .before .before .before .before .before .before in
-    let a = s .args in
-    work-refused (s .pre .0) (a .key .now) (a .public .now) (a .salt .now) (a .root .now) (a .first .now) (a .e) (a .second) (a .hidden) (a .out .now) (a .work .now)
-    (test1 .if1 .left) (test2 .if2 .left) (test3 .if3 .left) (test4 .if4 .left) (test5 .if5 .left)
-    (subst (_≤ length (a .out .now)) (at-opening-length .opening-length .ensures .0) (test6 .if6 .left)) (c .if7 .taken)
-
-mul-if4 : tie.Need-mul-if4
-mul-if4 c =
-    let s = c .before .before .before .before .before .before .before .before .before .before .before in
-    omega (arith, columns-most (s .pre .0))
-
-opening-length-requires : tie.Need-opening-length-requires
-opening-length-requires c κs =
-    let test3 = c .before .before .before in
-    let s = test3 .before .before .before .before .before .before .before .before .before .before in
-    s .pre .0
+  right : (k : ℕ) → testAt (tests tested) k ≡ true
+  right = passes (tests tested) refl (tested .open .ensures) (g .enum-told .given .1)
 
 open-key-requires : tie.Need-open-key-requires
 open-key-requires c κs =
-    let test7 = c .before .before in
-    let test6 = test7 .before in
-    let at-opening-length = test6 .before in
-    let test5 = at-opening-length .before in
-    let test4 = test5 .before in
-    let test3 = test4 .before .before in
-    let test2 = test3 .before in
-    let test1 = test2 .before in
-    let s = test1 .before .before .before .before .before .before .before .before in
-    let p = s .pre in (
+    let g = c .before .before in
+    let p = start (tested g) .pre in (
       record {
         valid = p .0;
-        key-size = test1 .if1 .left;
-        public-size = test2 .if2 .left;
-        salt-size = test3 .if3 .left;
-        root-size = test5 .if5 .left;
-        first-size = test4 .if4 .left;
+        key-size = eqb-true _ _ (right g 0);
+        public-size = eqb-true _ _ (right g 1);
+        salt-size = eqb-true _ _ (right g 2);
+        root-size = eqb-true _ _ (right g 4);
+        first-size = eqb-true _ _ (right g 3);
       },
       p .1,
-      subst (_≤ length (s .args .out .now)) (at-opening-length .opening-length .ensures .0) (test6 .if6 .left),
-      test7 .if7 .left,
+      leb-true _ _ (right g 5),
+      leb-true _ _ (right g 6),
     )
+
+returns-2 : tie.Need-returns-2
+unfolding openAnswer
+returns-2 c =
+    let k = c .before .before .before .before in
+    let g = k .before .before .before in
+    let l = tested g in
+    let a = start l .args in
+    k .open-key .ensures ∙ ap (λ (x : Answer). madeAfter x (file l) (a .out .now) (a .work .now)) (sym (passed-at (tests l) (keyed l) (right g)))
 
 pub open-execution-spec : {M : Type 1} → statement M
 open-execution-spec =
     tie.close
-    (tie.spec returns returns-2 returns-3 mul-if4 returns-4 returns-5 opening-length-requires returns-6 returns-7 open-key-requires
-    (λ c. c .before .before .before .before .open-key .kept .1 .1 .1 .1 .1 .1 .1 .1 .1 .0)
-    (λ c. c .before .before .before .before .open-key .kept .1 .1 .1 .1 .1 .1 .1 .1 .1 .1 .0)
-    (λ c. c .before .before .before .before .open-key .ensures))
+    (tie.spec (λ c κs. search needs) (λ c. c .match .keys1) returns open-key-requires (λ c. search needs) (λ c. search needs) returns-2)

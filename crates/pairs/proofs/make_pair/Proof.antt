@@ -21,8 +21,8 @@ returns-2 c =
     let e = m .before .before .before .before .before in
     let k = e .before .before .before in
     let s = start k in
-    line-accepted (s .args .text .now) (s .args .public .now) (replicate 32 0) (k .read-lines .last .1 .1 .1 .0) (s .pre) refl
-    (k .read-lines .ensures .0) (k .read-lines .ensures .1) (e .enum-told .given .1) (m .make-public-key .ensures .0) (m .make-public-key .ensures .1)
+    line-accepted (s .args .text .now) (s .args .public .now) (replicate 32 0) (k .read-lines .last .1 .1 .1 .0) refl
+    (k .read-lines .ensures .0) (k .read-lines .ensures .1) (e .enum-told .given .1) (m .make-public-key .ensures)
 
 pub make-pair-spec : {M : Type 1} → statement M
 make-pair-spec =

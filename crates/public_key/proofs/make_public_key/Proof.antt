@@ -1,18 +1,24 @@
 -- `public_key::make_public_key` refuses by length, in the call's order, then the first zero input, and else writes plaintext and ciphertext. Assumes
 -- nothing.
-use mathlib.Core.Path.{_≡_, sym, ap, _∙_}
+use mathlib.Core.Path.{_≡_, refl, sym, ap, _∙_}
+use mathlib.Core.Bool.{true}
+use mathlib.Core.List.{List}
 use Prim.Native.Nat.{ℕ, _≤_, zero-le}
 use native.Mathlib.Nat.{le-of-eq}
 use lib.ListN.{length, length-replicate}
 use lib.Dec.{lit≤}
+use borrow.Author.Tests.{eqb-true, leb-true}
 use Rattle.slices.proofs.Counts.{in-byte}
 use Rattle.aes.specs.Sizes.{length-aes}
+use Rattle.banquet.specs.Answer.{Test}
+use Rattle.banquet.specs.Refusals.{testAt}
+use Rattle.verdict.specs.Tests.{passes}
+use Rattle.sets.specs.Valid.{valid-base}
 use Rattle.public_key.proofs.Laws.{
   plaintext-room,
   ciphertext-room,
-  key-refused,
-  plaintext-refused,
-  output-refused,
+  tests,
+  refused,
   zero-refused,
   accepted,
 }
@@ -24,27 +30,46 @@ use Rattle.public_key.proofs.make_public_key.Tie as tie
 abbrev encrypt-before-ciphertext : tie.After-ciphertext → tie.After-encrypt
 encrypt-before-ciphertext c = c .before .before .before .before .before .before .before .before .before .before .before
 
--- every length is right
-module _ (c : tie.Else3) where
-  abbrev start : tie.Start
-  start = c .before .before .before .before .before .before
+-- where the lengths have been tested
+abbrev start : tie.After-public-key → tie.Start
+start l = l .before .before .before .before
 
-  fits : (length (start .args .key .now) ≡ 16) × (length (start .args .plaintext .now) ≡ 16) × (32 ≤ length (start .args .output .now))
-  fits = (c .before .before .if1 .left, c .before .if2 .left, c .if3 .left)
+returns : tie.Need-returns
+returns c =
+    let l = c .before in
+    let a = start l .args in
+    refused (a .key .now) (a .plaintext .now) (a .output .now) (l .public-key .ensures) (c .match .keys2)
 
-abbrev given : tie.After-first-zero → tie.Else3
+-- they are right
+module _ (g : tie.After-enum-told) where
+  abbrev tested : tie.After-public-key
+  tested = g .before .before
+
+  abbrev entry : tie.Start
+  entry = start tested
+
+  abbrev asked : List Test
+  asked = let a = entry .args in tests (a .key .now) (a .plaintext .now) (a .output .now)
+
+  right : (k : ℕ) → testAt asked k ≡ true
+  right = passes asked refl (tested .public-key .ensures) (g .enum-told .given .1)
+
+  fits : (length (entry .args .key .now) ≡ 16) × (length (entry .args .plaintext .now) ≡ 16) × (32 ≤ length (entry .args .output .now))
+  fits = (eqb-true _ _ (right 0), eqb-true _ _ (right 1), leb-true _ _ (right 2))
+
+abbrev given : tie.After-first-zero → tie.After-enum-told
 given c = c .before .before .before .before .before .before
 
 ciphertext-long : (c : tie.After-encrypt) → 16 ≡ length (c .encrypt .result)
 ciphertext-long c = sym (ap length (c .encrypt .ensures .0) ∙ length-aes _ _)
 
-returns-4 : tie.Need-returns-4
-returns-4 c =
+returns-2 : tie.Need-returns-2
+returns-2 c =
     let zero = c .before in
     let encrypted = zero .before .before .before .before in
-    let s = start (given zero) in
-    zero-refused (s .args .key .now) (s .args .plaintext .now) (s .args .output .now) (fits (given zero))
-    (encrypted .encrypt .ensures .1) (zero .first-zero .ensures) (c .if4 .taken)
+    let s = entry (given zero) in
+    zero-refused (s .args .key .now) (s .args .plaintext .now) (s .args .output .now) (right (given zero))
+    (encrypted .encrypt .ensures .1) (zero .first-zero .ensures) (c .if1 .taken)
 
 copy-at-requires-2 : tie.Need-copy-at-requires-2
 copy-at-requires-2 c κs =
@@ -52,31 +77,30 @@ copy-at-requires-2 c κs =
     let zero = first .before .before .before in
     ciphertext-room (ciphertext-long (zero .before .before .before .before)) (first .copy-at .kept .0) (fits (given zero) .2)
 
-returns-5 : tie.Need-returns-5
-returns-5 c =
+returns-3 : tie.Need-returns-3
+returns-3 c =
     let second = c .before .before in
     let first = second .before .before .before .before .before in
     let tested = first .before .before in
     let zero = tested .before in
     let encrypted = zero .before .before .before .before in
-    let s = start (given zero) in
-    accepted (s .args .key .now) (s .args .plaintext .now) (s .args .output .now) (fits (given zero))
-    (encrypted .encrypt .ensures .1) (zero .first-zero .ensures) (tested .if4 .left) (encrypted .encrypt .ensures .0)
+    let s = entry (given zero) in
+    accepted (s .args .key .now) (s .args .plaintext .now) (s .args .output .now) (right (given zero))
+    (encrypted .encrypt .ensures .1) (zero .first-zero .ensures) (tested .if1 .left) (encrypted .encrypt .ensures .0)
     (first .copy-at .ensures) (second .copy-at2 .ensures)
 
 pub make-public-key-spec : {M : Type 1} → statement M
 make-public-key-spec =
     tie.close
-    (tie.spec (λ c. key-refused _ _ _ (c .if1 .taken)) (λ c. plaintext-refused _ _ _ (c .before .if1 .left) (c .if2 .taken))
-    (λ c. output-refused _ _ _ (c .before .before .if1 .left) (c .before .if2 .left) (c .if3 .taken))
+    (tie.spec (λ c κs. valid-base) (λ c. c .match .keys1) returns
     (λ c. sym (length-replicate {A = ℕ} 200 0))
     (λ c κs. (fits (c .before) .0, (fits (c .before) .1, length-replicate {A = ℕ} 200 0)))
     (λ c. zero-le) (λ c. zero-le)
     (λ c. le-of-eq (sym (c .before .before .encrypt .kept .1 .1 .0 ∙ length-replicate {A = ℕ} 200 0))) (λ c κs. tt)
-    (λ c. in-byte (c .if4 .taken) (lit≤ tt)) returns-4
+    (λ c. in-byte (c .if1 .taken) (lit≤ tt)) returns-2
     (λ c κs. let f = fits (given (c .before .before)) in plaintext-room (f .1) (f .2))
     (λ c. ciphertext-long (encrypt-before-ciphertext c)) copy-at-requires-2
     (λ c.
     let second = c .before .before in
     second .copy-at2 .kept .0 ∙ second .before .before .before .before .before .copy-at .kept .0)
-    returns-5)
+    returns-3)

@@ -3,16 +3,16 @@ use mathlib.Core.Path.{_≡_, refl, sym, ap, _∙_}
 use mathlib.Core.List.{List}
 use Prim.Native.Nat.{ℕ, _*_, _/_, _-_, _^_, _<_, _≤_, zero-le}
 use native.Mathlib.Omega.{arith}
-use lib.Dec.{lit≤}
 use lib.ListN.{length, getD}
 use borrow.Rule.Slice.PartMut.{putMid, same-len-mid}
 use Rattle.slices.specs.Layout.{total, field}
 use Rattle.banquet.specs.Shape.{transcriptSizes}
 use Rattle.sets.specs.Bounds.{rowSizes}
+use Rattle.sets.specs.PublicKey.{front-long}
 use Rattle.stated.proofs.Laws.{transcript-fits, field-size}
 use Rattle.slices.proofs.Counts.{half-most}
 use Rattle.share_check.proofs.Halves.{first-lent, second-lent, halves-put}
-use Rattle.share_check.proofs.Rows.{second-fits, key-size, front-size, stated-length, made-right}
+use Rattle.share_check.proofs.Rows.{second-fits, stated-length, made-right}
 use Rattle.share_check.proofs.fill_rows.Statement.{statement}
 use Rattle.share_check.proofs.fill_rows.Tie as tie
 
@@ -27,8 +27,8 @@ field-before-share-rows c = c .before .before .before .before .before .before .b
 abbrev start-before-field : tie.After-field → tie.Start
 start-before-field c = c .before .before .before .before .before .before .before .before .before .before .before
 
-abbrev transcript-sizes-before-share-rows-arg : tie.After-share-rows-arg → tie.After-transcript-sizes
-transcript-sizes-before-share-rows-arg c = c .before .before .before .before .before .before .before
+abbrev transcript-sizes-before-front : tie.After-front → tie.After-transcript-sizes
+transcript-sizes-before-front c = c .before .before .before .before .before .before .before
 
 -- ---- where the sizes are known
 
@@ -79,7 +79,7 @@ share-rows-requires c κs =
       p .0 .valid,
       size z 0 ((c .before .before .before .before .before .before) .field .ensures),
       p .1,
-      front-size (p .0),
+      front-long (start z .args .shape) (start z .args .public .now) (p .0 .key .size) ((c .before .before .before .before .before) .front .ensures),
       size z 4 ((c .before .before .before .before) .field2 .ensures),
       size z 5 ((c .before .before .before) .field3 .ensures),
       size z 6 ((c .before .before) .field4 .ensures),
@@ -102,7 +102,8 @@ returns c =
     let z = z1 r in
     let s = start z in
     halves-put (w r) (n z) (s .pre .2) (r .rows .ensures) (stated-length (s .pre .0) (s .args .seeds .now))
-    (made-right (s .pre .0) (s .args .seeds .now) (z .transcript-sizes .ensures) ((field-before-share-rows x) .field .ensures) refl
+    (made-right (s .pre .0) (s .args .seeds .now) (z .transcript-sizes .ensures) ((field-before-share-rows x) .field .ensures)
+    ((x .before .before .before .before .before .before) .front .ensures)
     ((x .before .before .before .before .before) .field2 .ensures)
     ((x .before .before .before .before) .field3 .ensures) ((x .before .before .before) .field4 .ensures) ((x .before .before) .field5 .ensures)
     (x .share-rows .ensures))
@@ -112,10 +113,10 @@ fill-rows-spec =
     tie.close
     (tie.spec (λ c κs. (c .before .before .before .before) .pre .0 .valid) (λ c. sym (ap length (c .before .transcript-sizes .ensures)))
     (λ c. zero-le) (λ c. zero-le) (λ c. half-most _)
-    rows-requires (λ c κs. asked (c .before .before .before .before .before) 0 (omega arith)) (λ c. lit≤ tt) (λ c. lit≤ tt)
-    (λ c. omega (arith, key-size ((start-before-field c) .pre .0)))
-    (λ c κs. asked (transcript-sizes-before-share-rows-arg c) 4 (omega arith))
-    (λ c κs. asked (transcript-sizes-before-share-rows-arg (c .before)) 5 (omega arith))
-    (λ c κs. asked (transcript-sizes-before-share-rows-arg (c .before .before)) 6 (omega arith))
-    (λ c κs. asked (transcript-sizes-before-share-rows-arg (c .before .before .before)) 7 (omega arith))
+    rows-requires (λ c κs. asked (c .before .before .before .before .before) 0 (omega arith))
+    (λ c κs. (start-before-field c) .pre .0 .key .size)
+    (λ c κs. asked (transcript-sizes-before-front c) 4 (omega arith))
+    (λ c κs. asked (transcript-sizes-before-front (c .before)) 5 (omega arith))
+    (λ c κs. asked (transcript-sizes-before-front (c .before .before)) 6 (omega arith))
+    (λ c κs. asked (transcript-sizes-before-front (c .before .before .before)) 7 (omega arith))
     (λ c. half-most _) (λ c. half-most _) (λ c. omega (arith, written-long (rows-before-field5 c))) share-rows-requires same-length returns)

@@ -7,11 +7,13 @@ use lib.ListN.{length, take, replicate}
 use borrow.Author.Needs.{needs}
 use Rattle.slices.proofs.Put.{front-long}
 use Rattle.scratch.proofs.Laws.{front-output}
-use Rattle.banquet.specs.Shape.{sboxes}
+use Rattle.banquet.specs.Shape.{workLength, sboxes}
+use Rattle.banquet.specs.Sets.{schemeOf}
+use Rattle.banquet.specs.Signature.{signature}
 use Rattle.sets.specs.Bounds.{sboxes-most}
 use Rattle.sets.specs.Room.{sboxes-lent}
 use Rattle.scratch.specs.Scratch.{cleared-scratch}
-use Rattle.sign_message.specs.Answers.{refused, accepted}
+use Rattle.check_key.specs.Answers.{key-refused, key-accepted}
 use Rattle.sign_message.proofs.sign_key.Statement.{statement}
 use Rattle.sign_message.proofs.sign_key.Tie as tie
 
@@ -50,8 +52,9 @@ returns c =
     let s = start k in
     let a = s .args in
     let p = s .pre in
-    refused (p .0 .valid) (a .key .now) (a .public .now) (a .message .now) (a .salt .now) (a .seeds .now) (a .out .now) (a .work .now) (p .0) (p .1) (p .2)
-    (k .check-key .ensures .0) (refusing .match .keys2)
+    key-refused (schemeOf (a .shape)) (a .public .now) (a .key .now) (k .check-key .ensures .0)
+    (signature (schemeOf (a .shape)) (a .key .now) (a .public .now) (a .message .now) (a .salt .now) (a .seeds .now)) (a .out .now) (a .work .now)
+    (refusing .match .keys2)
 
 abbrev tested : tie.After-enum-told → tie.After-check-key
 tested g = g .before .before .before .before .before .before
@@ -99,7 +102,7 @@ work-long m = m .make .kept .1 .1 .1 .1 .1 .1 .1 .1 .1 .0
 clear-requires : tie.Need-clear-requires
 clear-requires c κs =
     let m = make-before-clear-arg c in
-    subst (65536 ≤_) (sym (work-long m)) (entry (sized m) .pre .2)
+    subst (workLength ≤_) (sym (work-long m)) (entry (sized m) .pre .2)
 
 abbrev made : tie.After-clear → tie.After-make
 made x = x .before .before .before .before .before .before .before .before
@@ -112,8 +115,9 @@ returns-2 c =
     let s = entry z in
     let a = s .args in
     let p = s .pre in
-    accepted (p .0 .valid) (a .key .now) (a .public .now) (a .message .now) (a .salt .now) (a .seeds .now) (a .out .now) (a .work .now) (p .0) (p .1) (p .2)
-    (known z .check-key .ensures .0) (z .before .enum-told .given .1)
+    key-accepted (schemeOf (a .shape)) (a .public .now) (a .key .now) (known z .check-key .ensures .0)
+    (signature (schemeOf (a .shape)) (a .key .now) (a .public .now) (a .message .now) (a .salt .now) (a .seeds .now)) (a .out .now) (a .work .now)
+    (z .before .enum-told .given .1)
     (front-output (z .signature-length .result) (a .out .now) (m .make .ensures .0)
     (m .make .kept .1 .1 .1 .1 .1 .1 .1 .1 .0 ∙ out-long z))
     (x .clear .ensures ∙ cleared-scratch (m .make .ensures .1))

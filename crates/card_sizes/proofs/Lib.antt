@@ -1,0 +1,2 @@
+-- The law that the proof cites.
+mod Laws

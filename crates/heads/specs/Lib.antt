@@ -1,0 +1,2 @@
+-- The parts of a head.
+pub mod Heads

@@ -1,2 +1,0 @@
--- The call that opens an execution, case by case.
-pub mod Answers

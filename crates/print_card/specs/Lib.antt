@@ -1,0 +1,2 @@
+-- A line in its room.
+pub mod Line

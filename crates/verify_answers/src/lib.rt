@@ -1,1 +1,0 @@
-// There is no code here: specs/ has the laws.
