@@ -1,10 +1,12 @@
 /*
- * banquet.h - the Banquet signature over AES-128 and SHAKE128, for C and C++.
+ * banquet.h - the Banquet signature over AES-128 and SHAKE128, for C99 and C++98
+ * or later.
  *
  * Parameters: 16 parties, 41 executions, 32-bit wide elements, m1 = 10, m2 = 20.
  *
- * Link with libcapi.a, which `rt staticlib capi` writes to target/staticlib/
- * (x86-64 Linux). It needs nothing but memcpy and memset from the C library.
+ * Link with libbanquet.a (`pkg-config --libs banquet`); in the repository, before
+ * `make install`, with target/staticlib/libcapi.a. Both are for x86-64 Linux. It
+ * needs nothing but memcpy and memset from the C library.
  *
  *
  * SLICES
@@ -60,8 +62,29 @@
  * There is no static data that is written to, no heap, no file and no lock: any
  * number of threads may call at once, each with its own `out` and `work`. A call
  * always returns, and it calls nothing back. Give every thread that calls
- * at least BANQUET_STACK_BYTES of stack beside what it needs itself. The stack is
- * not wiped: after sign and open it may still hold parts of key and seeds.
+ * at least BANQUET_STACK_BYTES of stack beside what it needs itself.
+ *
+ *
+ * SECRETS LEFT BEHIND
+ *
+ * `work` holds nothing of key and seeds after a call: it is zero or as it was,
+ * as said above, and this is promised and proved. The stack does hold something
+ * of them. Nothing proves or promises what: a contract speaks of the slices that
+ * are lent, not of locals that are gone, and a compiler may drop stores to
+ * these. tests/residue.c searches the stack and finds
+ *
+ *   - after public_key and sign: the whole key;
+ *   - after public_key, sign and open, and when sign or open is refused by 12:
+ *     key xor plaintext, which gives the key away;
+ *   - after sign and open: seeds of hidden parties, which give it away, too;
+ *   - nothing after verify, verify_opening and verify_card, which take no
+ *     secret.
+ *
+ * It finds no root seed, but it does not know all that a secret can be worked
+ * out from. So call banquet_wipe_stack() after public_key, sign and open: it
+ * overwrites the stack that they used. This is tested, not proved. Registers are
+ * not wiped. Key and seeds of your own are yours to wipe, as
+ * examples/c/sign_and_verify.c does.
  *
  *
  * WHAT IS PROVED
@@ -83,6 +106,13 @@
 extern "C" {
 #endif
 
+/* ---- version of this header, and of the Rust crate ---- */
+
+#define BANQUET_VERSION_MAJOR 0
+#define BANQUET_VERSION_MINOR 1
+#define BANQUET_VERSION_PATCH 0
+#define BANQUET_VERSION "0.1.0"
+
 /* ---- sizes, in bytes ---- */
 
 #define BANQUET_KEY_BYTES 16             /* secret key: an AES-128 key */
@@ -102,10 +132,19 @@ extern "C" {
 #define BANQUET_MAX_CARD_BYTES 105196
 
 /*
- * Stack that is enough for one call, with margin. Measured by tests/stack.c:
- * verify_card 73,944, verify 21,000, sign 19,960, open 17,880,
- * verify_opening 11,912, public_key 784.
+ * The most stack that each call was seen to take, accepted or refused: below its
+ * caller's stack pointer, with the arguments that stand there and the return
+ * address. What the caller takes itself comes on top. Measured by tests/stack.c,
+ * not proved.
  */
+#define BANQUET_STACK_PUBLIC_KEY 768
+#define BANQUET_STACK_SIGN 19928
+#define BANQUET_STACK_VERIFY 20968
+#define BANQUET_STACK_OPEN 17848
+#define BANQUET_STACK_VERIFY_OPENING 11896
+#define BANQUET_STACK_VERIFY_CARD 73928
+
+/* Stack that is enough for one call of any kind, with margin. */
 #define BANQUET_STACK_BYTES 131072
 
 /* ---- ranges of the numbers of an opening ---- */
@@ -161,6 +200,38 @@ extern "C" {
 #define BANQUET_REFUSED_THIRD_HASH 17
 /* Card text breaks its form. Place: the first bad line, counted from 1; 45 for bytes after the last. */
 #define BANQUET_REFUSED_TEXT_FORM 18
+
+/*
+ * What the number of an answer, BANQUET_NUMBER(answer), means: a constant text
+ * of one line. Where a place belongs to the number, the text says what
+ * BANQUET_PLACE(answer) is. For all numbers over 18 it is one text that says so.
+ */
+static inline const char *banquet_refusal_text(uint32_t number)
+{
+    static const char *const texts[] = {
+        "accepted",
+        "the key is not 16 bytes",
+        "the public key is not 32 bytes, or the plaintext not 16",
+        "the message is over 32,768 bytes",
+        "the salt is not 32 bytes, or the first challenge not 40",
+        "the seeds are not 656 bytes, or the seed for opening not 16",
+        "the output is too short, or the signature or opening has not its length",
+        "the work slice is under 65,536 bytes",
+        "the execution is over 40",
+        "the hidden party is over 15",
+        "the second challenge is below 20",
+        "an S-box input is zero under this key (place: the lowest such S-box)",
+        "the key does not take the plaintext to the ciphertext",
+        "a shown party's commitment differs (place: the lowest such party)",
+        "a shown party's share differs (place: the lowest such party), or the output shares miss the ciphertext (place 16)",
+        "c is not the sum of a_j times b_j (place: the lowest such execution)",
+        "the first hash differs: public key, message, salt, commitments or offsets are not what was signed",
+        "the third hash differs",
+        "the card's text breaks its form (place: the first bad line; 45 for bytes after the last)"
+    };
+
+    return number < sizeof texts / sizeof texts[0] ? texts[number] : "not a number that this library answers";
+}
 
 /* ---- calls ---- */
 
@@ -251,6 +322,15 @@ uint32_t banquet_open(const uint8_t *key, size_t key_len,
  *   opening     exactly BANQUET_OPENING_BYTES
  *   work        at least BANQUET_WORK_BYTES
  *
+ * The hidden party's seed is not in an opening, so what the opening says of that
+ * party cannot be recomputed. Its commitment (32 bytes from byte 33 + 32 *
+ * hidden on; hidden is byte 2489) is bound by nothing: with any other bytes there
+ * the answer is the same. Its output share is bound by the ciphertext (14, place
+ * 16), its shares of c, a and b by the product of the sums alone (15). So from
+ * an opening that holds anyone can make others that hold. One who needs the
+ * hidden commitment to be a certain one has to compare it. In a signature the
+ * first hash binds it (16).
+ *
  * Refusals: 2, 6, 7, 8, 9, 10, 13, 14, 15.
  */
 uint32_t banquet_verify_opening(const uint8_t *public_key, size_t public_key_len,
@@ -271,6 +351,51 @@ uint32_t banquet_verify_opening(const uint8_t *public_key, size_t public_key_len
  */
 uint32_t banquet_verify_card(const uint8_t *text, size_t text_len,
                              uint8_t *work, size_t work_len);
+
+/* ---- secrets on the stack ---- */
+
+#ifdef __GNUC__
+#define BANQUET_NEVER_INLINED __attribute__((noinline, unused))
+#define BANQUET_ALWAYS_INLINED inline __attribute__((always_inline))
+#define BANQUET_NOT_LAST() __asm__ volatile("" : : : "memory")
+#else
+#define BANQUET_NEVER_INLINED
+#define BANQUET_ALWAYS_INLINED inline
+#define BANQUET_NOT_LAST() ((void)0)
+#endif
+
+/* The array is volatile: stores to what is about to be gone would be dropped else. */
+static BANQUET_NEVER_INLINED void banquet_wipe_below(void)
+{
+    volatile uint64_t gone[(BANQUET_STACK_BYTES - 256) / 8];
+    size_t i;
+
+    for (i = 0; i < sizeof gone / sizeof gone[0]; i++)
+        gone[i] = 0;
+}
+
+/*
+ * Overwrites the stack below its caller with zeros, deeper than any call goes.
+ * Call it after public_key, sign and open, whatever they answer, from the
+ * function that called them: from one above it reaches less deep, by what the
+ * frames between take. It takes at most BANQUET_STACK_BYTES of stack itself. Of
+ * the 32 bytes next to the caller's frame, where its own frame begins, it may
+ * leave some as they were.
+ *
+ * What it calls must not be inlined, since the array would then be a part of the
+ * caller's frame, and what the calls left lies below that; nor jumped to as the
+ * last thing that the caller does, since that frame would then be gone. GNU C and
+ * clang are told so. With another compiler look at what it makes of it.
+ */
+static BANQUET_ALWAYS_INLINED void banquet_wipe_stack(void)
+{
+    banquet_wipe_below();
+    BANQUET_NOT_LAST();
+}
+
+#undef BANQUET_NEVER_INLINED
+#undef BANQUET_ALWAYS_INLINED
+#undef BANQUET_NOT_LAST
 
 #ifdef __cplusplus
 }

@@ -1,31 +1,22 @@
-# Sourced in the repository's root: exports BANQUET_LIB, the folder of libcapi.a, and CARGO_TARGET_DIR.
-# If the caller set BANQUET_LIB, that folder is used as it is. Else it is target/staticlib, and the archive is built there if it is missing or
-# older than its sources. To build is to prove: from nothing it takes minutes.
+# shellcheck shell=bash
+# Sourced in the repository's root, with the names of the commands that are needed: tests for these first, then builds the library where it isn't built.
+# To build is to prove: from nothing it takes minutes. Exports BANQUET_LIB, the folder of libcapi.a, and CARGO_TARGET_DIR. If the caller set BANQUET_LIB,
+# that folder is used as it is.
+root="$PWD"
+self="${0##*/}"
+source scripts/build.sh
+need_tools "$@"
 
-fail() {
-    echo "$(basename "$0"): $*" >&2
-    exit 2
-}
-
-command -v cargo > /dev/null || fail "there is no command cargo: Rust is not on the path"
-export CARGO_TARGET_DIR="$PWD/target/cargo"
-
+export CARGO_TARGET_DIR="$root/target/cargo"
 if [ -n "${BANQUET_LIB:-}" ]; then
-    [ -f "$BANQUET_LIB/libcapi.a" ] || fail "there is no $BANQUET_LIB/libcapi.a, which BANQUET_LIB names"
+    [ -f "$BANQUET_LIB/libcapi.a" ] || {
+        say "there is no $BANQUET_LIB/libcapi.a, which BANQUET_LIB names"
+        exit 2
+    }
     BANQUET_LIB="$(cd "$BANQUET_LIB" && pwd)"
-    echo "$(basename "$0"): the library is $BANQUET_LIB/libcapi.a" >&2
+    say "the library is $BANQUET_LIB/libcapi.a"
 else
-    BANQUET_LIB="$PWD/target/staticlib"
-    archive="$BANQUET_LIB/libcapi.a"
-    if [ ! -f "$archive" ] || [ -n "$(find crates crates.txt -newer "$archive" -print -quit)" ]; then
-        command -v rt > /dev/null || fail "the Rattle toolchain is not on the path: there is no command rt"
-        echo "$(basename "$0"): target/staticlib/libcapi.a is not there, or older than crates/: proving and building it, which from nothing takes some minutes" >&2
-        mkdir -p target
-        if ! rt staticlib capi < /dev/null > target/capi.log 2>&1; then
-            tail -n 20 target/capi.log >&2
-            fail "libcapi.a was not built; target/capi.log says why"
-        fi
-        touch "$archive"
-    fi
+    BANQUET_LIB="$root/target/staticlib"
+    build capi target/staticlib/libcapi.a || exit 2
 fi
 export BANQUET_LIB

@@ -5,7 +5,8 @@ ORACLE is the directory of oracle.py, an implementation of document 01 in plain 
 that it made: cards and altered cards, each with what is to be printed of it. Each card of the three vectors, every altered card of the first, and
 cards with altered signatures, which are answered by the oracle's check_card_text; also the card of the longest message. What sign_card and public_keys
 write follows from the oracle's seal and make_public_key; document 01 has no text for them, so the lines that they refuse stand here by hand. The
-samples are signed with the first vector's key; in the altered one a pigment line says 72,5 for 12,5.
+samples are signed with the first vector's key, which samples/keys has the public key of; in the altered one a pigment line says 72,5 for 12,5, and the
+stranger's is signed with the second vector's key.
 """
 import hashlib
 import json
@@ -120,6 +121,15 @@ for name, text in samples:
     with open('samples/%s.card' % name, 'wb') as file:
         file.write(text)
     answers.append('%s.card: %s' % (name, card(text).decode()))
+stranger, pigments = vectors[1], b'PB29 999,9\nPW6 250\n'
+stranger_key = bytes.fromhex(stranger['public_key'])
+made = oracle.seal(bytes.fromhex(stranger['key']), stranger_key, pigments, drawn[:32], drawn[32:])
+assert made[0] == 'accepted' and stranger_key != public_key
+with open('samples/stranger.card', 'wb') as file:
+    file.write(oracle.write_card_text(stranger_key, pigments, made[1]))
+answers.append('stranger.card: accepted\n')
+with open('samples/keys', 'wb') as file:
+    file.write(line(public_key))
 with open('samples/answers', 'w') as file:
     file.write(''.join(answers))
 

@@ -1,7 +1,7 @@
 /*
- * Signs pigment lines, verifies the signature, then alters one byte and shows the refusal.
+ * Signs pigment lines, wipes what is secret, verifies the signature, then alters one byte and shows the refusal.
  *
- * From the repository's root, after `rt staticlib capi`:
+ * From the repository's root, after `make`:
  *
  *     gcc -std=c99 -Wall -Wextra -pedantic -O2 -Iinclude examples/c/sign_and_verify.c \
  *         target/staticlib/libcapi.a -o target/sign_and_verify
@@ -18,20 +18,32 @@ static void random_bytes(uint8_t *out, size_t n)
 {
     FILE *source = fopen("/dev/urandom", "rb");
 
-    if (source == NULL || fread(out, 1, n, source) != n) {
+    /* without a buffer, in which the bytes would stay */
+    if (source == NULL || setvbuf(source, NULL, _IONBF, 0) != 0 || fread(out, 1, n, source) != n) {
         fputs("no random bytes from /dev/urandom\n", stderr);
         exit(EXIT_FAILURE);
     }
     fclose(source);
 }
 
-/* Prints an answer in the words of the card program. */
+/* Overwrites n secret bytes. By volatile writes: a compiler may drop a memset of what is not read again. */
+static void wipe(uint8_t *secret, size_t n)
+{
+    volatile uint8_t *at = secret;
+
+    while (n-- > 0)
+        *at++ = 0;
+}
+
+/* Prints an answer in the words of the card program, and what its number means. */
 static void print_answer(const char *what, uint32_t answer)
 {
+    const char *text = banquet_refusal_text(BANQUET_NUMBER(answer));
+
     if (answer == BANQUET_ACCEPTED)
-        printf("%s: accepted\n", what);
+        printf("%s: %s\n", what, text);
     else
-        printf("%s: refused %" PRIu32 " %" PRIu32 "\n", what, BANQUET_NUMBER(answer), BANQUET_PLACE(answer));
+        printf("%s: refused %" PRIu32 " %" PRIu32 ": %s\n", what, BANQUET_NUMBER(answer), BANQUET_PLACE(answer), text);
 }
 
 /* Ends the program unless an answer is what was expected. */
@@ -52,6 +64,7 @@ static void make_keys(uint8_t *key, uint8_t *public_key)
         random_bytes(key, BANQUET_KEY_BYTES);
         answer = banquet_public_key(key, BANQUET_KEY_BYTES, plaintext, sizeof plaintext,
                                     public_key, BANQUET_PUBLIC_KEY_BYTES);
+        banquet_wipe_stack();
         print_answer("make a public key", answer);
     } while (BANQUET_NUMBER(answer) == BANQUET_REFUSED_ZERO_INPUT);
     expect(BANQUET_ACCEPTED, answer);
@@ -75,6 +88,10 @@ int main(void)
     answer = banquet_sign(key, sizeof key, public_key, sizeof public_key, message, message_len,
                           salt, sizeof salt, seeds, sizeof seeds,
                           signature, sizeof signature, work, sizeof work);
+    /* what sign left on the stack, and our own copies; one who signs again keeps the key. `work` is zero already */
+    banquet_wipe_stack();
+    wipe(seeds, sizeof seeds);
+    wipe(key, sizeof key);
     print_answer("sign", answer);
     expect(BANQUET_ACCEPTED, answer);
 

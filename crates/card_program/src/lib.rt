@@ -1,7 +1,5 @@
 // The card program: a card's text comes from standard input, and `accepted`, or `refused` with number and place, goes to standard output. The gate
 // runs it on three texts, as `card`, `card_empty` and `card_line_45`.
-use libc::STDIN_FILENO;
-use libc::STDOUT_FILENO;
 ghost use mathlib.Core.Path.{_≡_};
 ghost use Prim.Native.Nat.{suc};
 ghost use lib.ListN.{length};
@@ -16,11 +14,16 @@ fn room() -> [u8; card_sizes::TEXT + 1]
     [0; card_sizes::TEXT + 1]
 }
 
+// Where a read fails nothing is printed, since the text may go on.
 pub fn run() {
     let mut text = room();
-    let n = io::read_full(STDIN_FILENO, &mut text);
+    let input = stdio::read(&mut text);
+    if input.failed {
+        return;
+    }
+    let n = input.length;
     let line = print_card::print_card(&text[..n]);
     let bytes = line.bytes;
     let end = line.length;
-    io::write_all(STDOUT_FILENO, &bytes[..end]);
+    stdio::write(&bytes[..end]);
 }

@@ -1,7 +1,5 @@
 // Signs: key, public key, message, salt and root seeds come from standard input, in hexadecimal, a line each; the card goes to standard output, or
-// `refused` with number and place.
-use libc::STDIN_FILENO;
-use libc::STDOUT_FILENO;
+// `refused` with number and place. Where a read fails nothing is printed.
 ghost use mathlib.Core.Path.{_≡_};
 ghost use lib.ListN.{length};
 ghost use Rattle.banquet.specs.Shape.{messageLimit};
@@ -24,8 +22,12 @@ fn card_room() -> [u8; card_sizes::TEXT]
 
 fn main() {
     let mut text = request_room();
-    let n = io::read_full(STDIN_FILENO, &mut text);
+    let input = stdio::read(&mut text);
+    if input.failed {
+        return;
+    }
+    let n = input.length;
     let mut card = card_room();
     let end = requests::print_request(&text[..n], &mut card);
-    io::write_all(STDOUT_FILENO, &card[..end]);
+    stdio::write(&card[..end]);
 }

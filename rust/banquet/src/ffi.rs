@@ -1,6 +1,7 @@
 //! The functions of `libcapi.a`, as `include/banquet.h` declares them.
 //!
-//! A slice is a pointer and a length. An answer is number * 65,536 + place, and 0 is accepted.
+//! A slice is a pointer and a length. An answer is number * 65,536 + place, and 0 is accepted. Those that
+//! take a key leave parts of it on the stack: call [`wipe_stack`](crate::wipe_stack) after them.
 //!
 //! # Safety
 //!

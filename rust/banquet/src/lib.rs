@@ -30,13 +30,20 @@
 //! is written to overlaps no other.
 //!
 //! The calls are thread-safe. They take up to [`STACK_LEN`] bytes of stack, which Rust's threads have
-//! by default. They do not wipe the stack.
+//! by default.
+//!
+//! The library leaves parts of key and seeds on the stack. The calls of this module and of [`slices`]
+//! that take secrets overwrite it before they return, by [`wipe_stack`]. Nothing proves this, and
+//! registers are not wiped. That the work slice holds nothing of them afterwards is proved. The caller's
+//! own copies of key and seeds are the caller's affair.
 
 pub mod ffi;
 mod refusal;
 pub mod slices;
+mod stack;
 
 pub use refusal::Refusal;
+pub use stack::wipe_stack;
 
 /// Bytes of a secret key.
 pub const KEY_LEN: usize = 16;

@@ -100,6 +100,48 @@ impl Refusal {
         }
     }
 
+    /// What the number means, in the words of `banquet_refusal_text` in `include/banquet.h`. Where a
+    /// place belongs to it, they say what [`place`](Self::place) counts.
+    pub fn text(self) -> &'static str {
+        match self {
+            Self::KeyLength => "the key is not 16 bytes",
+            Self::PublicKeyLength => "the public key is not 32 bytes, or the plaintext not 16",
+            Self::MessageLength => "the message is over 32,768 bytes",
+            Self::SaltLength => "the salt is not 32 bytes, or the first challenge not 40",
+            Self::SeedLength => "the seeds are not 656 bytes, or the seed for opening not 16",
+            Self::FileLength => {
+                "the output is too short, or the signature or opening has not its length"
+            }
+            Self::WorkLength => "the work slice is under 65,536 bytes",
+            Self::ExecutionRange => "the execution is over 40",
+            Self::HiddenPartyRange => "the hidden party is over 15",
+            Self::SecondChallengeRange => "the second challenge is below 20",
+            Self::ZeroInput { .. } => {
+                "an S-box input is zero under this key (place: the lowest such S-box)"
+            }
+            Self::WrongKey => "the key does not take the plaintext to the ciphertext",
+            Self::CommitmentDiffers { .. } => {
+                "a shown party's commitment differs (place: the lowest such party)"
+            }
+            Self::ShareDiffers { .. } => {
+                "a shown party's share differs (place: the lowest such party), \
+                 or the output shares miss the ciphertext (place 16)"
+            }
+            Self::ProductDiffers { .. } => {
+                "c is not the sum of a_j times b_j (place: the lowest such execution)"
+            }
+            Self::FirstHashDiffers => {
+                "the first hash differs: \
+                 public key, message, salt, commitments or offsets are not what was signed"
+            }
+            Self::ThirdHashDiffers => "the third hash differs",
+            Self::TextForm { .. } => {
+                "the card's text breaks its form \
+                 (place: the first bad line; 45 for bytes after the last)"
+            }
+        }
+    }
+
     fn new(number: u32, place: u8) -> Option<Self> {
         Some(match number {
             1 => Self::KeyLength,
@@ -142,42 +184,13 @@ pub(crate) fn answer(code: u32) -> Result<(), Refusal> {
 
 impl fmt::Display for Refusal {
     fn fmt(&self, f: &mut fmt::Formatter<'_>) -> fmt::Result {
-        write!(f, "refused {} {}: ", self.number(), self.place())?;
-        match self {
-            Self::KeyLength => write!(f, "the key is not 16 bytes"),
-            Self::PublicKeyLength => {
-                write!(f, "the public key is not 32 bytes, or the plaintext not 16")
-            }
-            Self::MessageLength => write!(f, "the message is over 32,768 bytes"),
-            Self::SaltLength => {
-                write!(f, "the salt is not 32 bytes, or the first challenge not 40")
-            }
-            Self::SeedLength => write!(f, "the seeds have not their length"),
-            Self::FileLength => {
-                write!(
-                    f,
-                    "the output is too short, or the signature or opening has not its length"
-                )
-            }
-            Self::WorkLength => write!(f, "the work slice is under 65,536 bytes"),
-            Self::ExecutionRange => write!(f, "the execution is over 40"),
-            Self::HiddenPartyRange => write!(f, "the hidden party is over 15"),
-            Self::SecondChallengeRange => write!(f, "the second challenge is below 20"),
-            Self::ZeroInput { sbox } => write!(f, "the input of S-box {sbox} is zero"),
-            Self::WrongKey => write!(f, "the key does not fit the public key"),
-            Self::CommitmentDiffers { party } => {
-                write!(f, "the commitment of party {party} differs")
-            }
-            Self::ShareDiffers { party: 16 } => write!(f, "the output shares miss the ciphertext"),
-            Self::ShareDiffers { party } => write!(f, "a share of party {party} differs"),
-            Self::ProductDiffers { execution } => {
-                write!(f, "the products of execution {execution} do not hold")
-            }
-            Self::FirstHashDiffers => write!(f, "the first hash differs"),
-            Self::ThirdHashDiffers => write!(f, "the third hash differs"),
-            Self::TextForm { line: 45 } => write!(f, "the text goes on after its last line"),
-            Self::TextForm { line } => write!(f, "line {line} of the text breaks its form"),
-        }
+        write!(
+            f,
+            "refused {} {}: {}",
+            self.number(),
+            self.place(),
+            self.text()
+        )
     }
 }
 
@@ -214,8 +227,11 @@ mod tests {
         let mut words: Vec<String> = (1..=18)
             .map(|number| answer(number * 65_536 + 3).unwrap_err().to_string())
             .collect();
-        assert_eq!(words[10], "refused 11 3: the input of S-box 3 is zero");
-        assert_eq!(words[15], "refused 16 0: the first hash differs");
+        assert_eq!(
+            words[10],
+            "refused 11 3: an S-box input is zero under this key (place: the lowest such S-box)"
+        );
+        assert_eq!(words[16], "refused 17 0: the third hash differs");
         words.sort();
         words.dedup();
         assert_eq!(words.len(), 18);

@@ -4,9 +4,13 @@
 //! result and the rest is as it was; after a refusal all of it is. After an accepted call and after
 //! the refusals 13 to 17 the first 65,536 bytes of `work` are zero and the rest is as it was; after
 //! every other refusal all of it is.
+//!
+//! [`public_key`], [`sign`] and [`open`], which take secrets, end with [`wipe_stack`], whatever the
+//! answer is.
 
 use crate::ffi;
 use crate::refusal::{answer, Refusal};
+use crate::stack::wipe_stack;
 
 /// Makes the public key of `key` and `plaintext` (16 bytes each): the first 32 bytes of `out`.
 ///
@@ -15,7 +19,7 @@ use crate::refusal::{answer, Refusal};
 /// Those of numbers 1, 2, 6 and 11; the first that applies.
 pub fn public_key(key: &[u8], plaintext: &[u8], out: &mut [u8]) -> Result<(), Refusal> {
     // SAFETY: Rust's slices keep the rules of `ffi`; so in all six calls.
-    answer(unsafe {
+    let code = unsafe {
         ffi::banquet_public_key(
             key.as_ptr(),
             key.len(),
@@ -24,7 +28,9 @@ pub fn public_key(key: &[u8], plaintext: &[u8], out: &mut [u8]) -> Result<(), Re
             out.as_mut_ptr(),
             out.len(),
         )
-    })
+    };
+    wipe_stack();
+    answer(code)
 }
 
 /// Signs a message of at most 32,768 bytes, under a salt of 32 bytes and 656 bytes of seeds, both
@@ -43,7 +49,7 @@ pub fn sign(
     work: &mut [u8],
 ) -> Result<(), Refusal> {
     // SAFETY: as above.
-    answer(unsafe {
+    let code = unsafe {
         ffi::banquet_sign(
             key.as_ptr(),
             key.len(),
@@ -60,7 +66,9 @@ pub fn sign(
             work.as_mut_ptr(),
             work.len(),
         )
-    })
+    };
+    wipe_stack();
+    answer(code)
 }
 
 /// Checks a signature of `message`. It holds only if the answer is `Ok`.
@@ -110,7 +118,7 @@ pub fn open(
     work: &mut [u8],
 ) -> Result<(), Refusal> {
     // SAFETY: as above.
-    answer(unsafe {
+    let code = unsafe {
         ffi::banquet_open(
             key.as_ptr(),
             key.len(),
@@ -130,7 +138,9 @@ pub fn open(
             work.as_mut_ptr(),
             work.len(),
         )
-    })
+    };
+    wipe_stack();
+    answer(code)
 }
 
 /// Checks an opening. It holds only if the answer is `Ok`.

@@ -100,6 +100,74 @@ fn what_is_opened_is_accepted() {
     }
 }
 
+/// Of the hidden party's row in an opening nothing can be worked out again.
+#[test]
+fn what_an_opening_says_of_the_hidden_party_is_bound_as_the_header_says() {
+    let (key, public_key) = keys();
+    let verify = |opening: &[u8]| banquet::verify_opening(&public_key, opening);
+    for hidden in 0..banquet::PARTIES {
+        let opening = banquet::open(&key, &public_key, &execution(hidden)).unwrap();
+        let hidden = hidden as usize;
+
+        // its commitment by nothing: each byte may be any, and all may
+        let commitment = 33 + 32 * hidden..33 + 32 * (hidden + 1);
+        for at in commitment.clone() {
+            let mut altered = opening.clone();
+            altered[at] ^= 1 << (at % 8);
+            assert_eq!(verify(&*altered), Ok(()));
+        }
+        for byte in [0, 0x5a, 0xff] {
+            let mut altered = opening.clone();
+            altered[commitment.clone()].fill(byte);
+            assert_eq!(verify(&*altered), Ok(()));
+        }
+
+        // its output share by the ciphertext
+        for at in 545 + 16 * hidden..545 + 16 * (hidden + 1) {
+            let mut altered = opening.clone();
+            altered[at] ^= 1 << (at % 8);
+            assert_eq!(verify(&*altered), Err(Refusal::ShareDiffers { party: 16 }));
+        }
+
+        // its shares of c, a and b by the product of the sums alone
+        for at in [1_145 + 4 * hidden, 1_209 + 40 * hidden, 1_849 + 40 * hidden] {
+            let mut altered = opening.clone();
+            altered[at] ^= 1;
+            assert_eq!(
+                verify(&*altered),
+                Err(Refusal::ProductDiffers { execution: 40 })
+            );
+        }
+        // so another a and b with the same product are accepted: here the sums of a_0 and b_0 change
+        // places
+        let mut altered = opening.clone();
+        for k in 0..4 {
+            let sum =
+                |from: usize| (0..16).fold(0, |sum, party| sum ^ opening[from + 40 * party + k]);
+            let change = sum(1_209) ^ sum(1_849);
+            altered[1_209 + 40 * hidden + k] ^= change;
+            altered[1_849 + 40 * hidden + k] ^= change;
+        }
+        assert_ne!(altered, opening);
+        assert_eq!(verify(&*altered), Ok(()));
+    }
+}
+
+/// In a signature the first hash binds it.
+#[test]
+fn a_hidden_commitment_in_a_signature_is_bound() {
+    let (key, public_key) = keys();
+    let signature = banquet::sign(&key, &public_key, MESSAGE, &SALT, &SEEDS).unwrap();
+    for at in 96 + 5 * 480 + 64..96 + 5 * 480 + 96 {
+        let mut altered = signature.clone();
+        altered[at] ^= 1;
+        assert_eq!(
+            banquet::verify(&public_key, MESSAGE, &*altered),
+            Err(Refusal::FirstHashDiffers)
+        );
+    }
+}
+
 #[test]
 fn numbers_out_of_range_are_refused() {
     let (key, public_key) = keys();

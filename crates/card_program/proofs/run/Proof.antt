@@ -9,7 +9,7 @@ use Rattle.card_program.proofs.run.Tie as tie
 fits : tie.Need-array-share-prefix-bytes
 fits c = line-within _ (c .before .print-card .ensures)
 
-counts : tie.Need-slice-aggregate-write-all
+counts : tie.Need-slice-aggregate-write
 counts c =
     let line = c .before .before .print-card .result in
     sym (length-take-le (line .length) (line .bytes) (fits (c .before)))
@@ -17,5 +17,5 @@ counts c =
 pub run-spec : {M : Type 1} → statement M
 run-spec =
     tie.close
-    (tie.spec (λ c κs. search needs) (λ c. search needs) (λ c κs. search needs) (λ c. search needs) (λ c. search needs) (λ c κs. search needs) fits
-    counts (λ c κs. search needs) (λ c. search needs))
+    (tie.spec (λ c κs. search needs) (λ c. search needs) (λ c κs. search needs) (λ c. search needs) (λ c. search needs) (λ c. search needs)
+    (λ c κs. search needs) fits counts (λ c κs. search needs) (λ c. search needs))

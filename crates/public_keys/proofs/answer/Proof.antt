@@ -12,7 +12,7 @@ fits c =
     let p = c .before .print-pair .ensures in
     rw (p .1, length-append) (omega (arith, p .0))
 
-counts : tie.Need-slice-aggregate-write-all
+counts : tie.Need-slice-aggregate-write
 counts c =
     let k = c .before .before .print-pair in
     sym (length-take-le (k .result) (k .last .1 .1 .1 .0) (fits (c .before)))
@@ -21,4 +21,4 @@ pub answer-spec : {M : Type 1} → statement M
 answer-spec =
     tie.close
     (tie.spec (λ c. search needs) (λ c κs. search needs) (λ c κs. search needs) (λ c. search needs) (λ c. search needs) (λ c κs. search needs)
-    fits counts (λ c κs. search needs) (λ c. search needs))
+    fits counts (λ c κs. search needs) (λ c. search needs) (λ c. search needs))

@@ -1,0 +1,2 @@
+-- What a read gave.
+pub mod Outcome
