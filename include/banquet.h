@@ -109,9 +109,9 @@ extern "C" {
 /* ---- version of this header, and of the Rust crate ---- */
 
 #define BANQUET_VERSION_MAJOR 0
-#define BANQUET_VERSION_MINOR 2
+#define BANQUET_VERSION_MINOR 1
 #define BANQUET_VERSION_PATCH 0
-#define BANQUET_VERSION "0.2.0"
+#define BANQUET_VERSION "0.1.0"
 
 /* ---- sizes, in bytes ---- */
 
@@ -125,11 +125,11 @@ extern "C" {
 #define BANQUET_SIGNATURE_BYTES 19776
 #define BANQUET_OPENING_BYTES 2554
 #define BANQUET_WORK_BYTES 65536         /* least length of `work` */
-#define BANQUET_MAX_MESSAGE_BYTES 4096
+#define BANQUET_MAX_MESSAGE_BYTES 32768
 
 /* Length of the card text for a message of m bytes, and the longest such. */
 #define BANQUET_CARD_BYTES(m) (39660u + 2u * (m))
-#define BANQUET_MAX_CARD_BYTES 47852
+#define BANQUET_MAX_CARD_BYTES 105196
 
 /*
  * The most stack that each call was seen to take, accepted or refused: below its
@@ -142,10 +142,10 @@ extern "C" {
 #define BANQUET_STACK_VERIFY 20968
 #define BANQUET_STACK_OPEN 17848
 #define BANQUET_STACK_VERIFY_OPENING 11896
-#define BANQUET_STACK_VERIFY_CARD 45256
+#define BANQUET_STACK_VERIFY_CARD 73928
 
 /* Stack that is enough for one call of any kind, with margin. */
-#define BANQUET_STACK_BYTES 65536
+#define BANQUET_STACK_BYTES 131072
 
 /* ---- ranges of the numbers of an opening ---- */
 
@@ -167,7 +167,7 @@ extern "C" {
 #define BANQUET_REFUSED_KEY_LENGTH 1
 /* The public key is not 32 bytes, or the plaintext for making one not 16. */
 #define BANQUET_REFUSED_PUBLIC_KEY_LENGTH 2
-/* The message is over 4,096 bytes. */
+/* The message is over 32,768 bytes. */
 #define BANQUET_REFUSED_MESSAGE_LENGTH 3
 /* The salt is not 32 bytes, or the first challenge not 40. */
 #define BANQUET_REFUSED_SALT_LENGTH 4
@@ -212,7 +212,7 @@ static inline const char *banquet_refusal_text(uint32_t number)
         "accepted",
         "the key is not 16 bytes",
         "the public key is not 32 bytes, or the plaintext not 16",
-        "the message is over 4,096 bytes",
+        "the message is over 32,768 bytes",
         "the salt is not 32 bytes, or the first challenge not 40",
         "the seeds are not 656 bytes, or the seed for opening not 16",
         "the output is too short, or the signature or opening has not its length",

@@ -1,5 +1,5 @@
 #!/usr/bin/env python3
-"""The scheme of document 01 with slip 1 of document 02, for any parameter set, hash and circuit, in plain steps. vectors/toy.py uses it.
+"""The scheme of document 01, for any parameter set, hash and circuit, in plain steps. vectors/toy.py uses it.
 
 Written from the document and not copied from the definitions, by someone who had read them before: its names and its order are the document's
 ("seal" is what the definitions call a signature). Where the document leaves a choice: h3 takes each party's c, a and b before the next party's; a
@@ -14,8 +14,6 @@ sys.dont_write_bytecode = True
 from field import Field, byte
 
 WORK = 65536
-# slip 1: "Cabinets should hold no more than 4,096, so that becomes the message limit in number 3."
-MESSAGE = 4096
 
 
 # ---- bytes
@@ -267,7 +265,7 @@ def seal(scheme, key, public_key, message, salt, seeds, output, work):
     def answer():
         refuse(len(key) != 16, 1)
         refuse(len(public_key) != scheme.front + 16, 2)
-        refuse(len(message) > MESSAGE, 3)
+        refuse(len(message) > 32768, 3)
         refuse(len(salt) != 32, 4)
         refuse(len(seeds) != 16 * scheme.executions, 5)
         refuse(len(output) < sum(scheme.seal_sizes), 6)
@@ -299,7 +297,7 @@ def frame_of(scheme, file, e):
 def check_seal(scheme, public_key, message, file, work):
     def answer():
         refuse(len(public_key) != scheme.front + 16, 2)
-        refuse(len(message) > MESSAGE, 3)
+        refuse(len(message) > 32768, 3)
         refuse(len(file) != sum(scheme.seal_sizes), 6)
         refuse(len(work) < WORK, 7)
         salt, h1, h3, _ = cut(file, *scheme.seal_sizes)
@@ -381,7 +379,7 @@ def card(scheme, text):
     def has(*lengths):
         return lambda digits: digits in lengths
 
-    forms = [has(2 * scheme.front + 32), lambda digits: digits % 2 == 0 and digits <= 2 * MESSAGE, has(2 * 96)]
+    forms = [has(2 * scheme.front + 32), lambda digits: digits % 2 == 0 and digits <= 65536, has(2 * 96)]
     forms += [has(2 * sum(scheme.frame_sizes))] * scheme.executions
     lines = []
     for n, form in enumerate(forms, 1):

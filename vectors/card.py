@@ -1,13 +1,12 @@
 #!/usr/bin/env python3
 """What the programs card, sign_card, public_keys and vectors_card read and write, and samples/: python3 vectors/card.py ORACLE, from the root
 
-ORACLE is the directory of oracle.py and slips.py, an implementation of documents 01 and 02 in plain Python that was written apart from this
-repository, with the vectors that it made: cards and altered cards, each with what is to be printed of it. Each card of the three vectors, every
-altered card of the first, and cards with altered signatures, which are answered by the oracle's card program with the requests that have landed
-(landed.py); the altered cards of slip 1, but for the nine that change the most of a text; also the card of the longest message. What sign_card and
-public_keys write follows from the oracle's seal and make_public_key; document 01 has no text for them, so the lines that they refuse stand here by
-hand. The samples are signed with the first vector's key, which samples/keys has the public key of; in the altered one a pigment line says 72,5 for
-12,5, and the stranger's is signed with the second vector's key.
+ORACLE is the directory of oracle.py, an implementation of document 01 in plain Python that was written apart from this repository, with the vectors
+that it made: cards and altered cards, each with what is to be printed of it. Each card of the three vectors, every altered card of the first, and
+cards with altered signatures, which are answered by the oracle's check_card_text; also the card of the longest message. What sign_card and public_keys
+write follows from the oracle's seal and make_public_key; document 01 has no text for them, so the lines that they refuse stand here by hand. The
+samples are signed with the first vector's key, which samples/keys has the public key of; in the altered one a pigment line says 72,5 for 12,5, and the
+stranger's is signed with the second vector's key.
 """
 import hashlib
 import json
@@ -16,10 +15,8 @@ import sys
 
 sys.dont_write_bytecode = True
 sys.path.insert(0, sys.argv[1])
+import oracle  # noqa: E402
 import tamper  # noqa: E402
-from slip_world import apply, changes_from_json  # noqa: E402
-
-import landed  # noqa: E402
 
 read, written = [], []
 
@@ -39,20 +36,15 @@ def lend(text):
     read.append(b'b%s\n%s\n' % (number(len(text)).encode(), text))
 
 
-def altered_part(text):
-    """The one place where the text differs from what is lent: where it begins, and where it ends in the one and in the other."""
-    least = min(len(text), len(lent))
-    a = next((i for i in range(least) if text[i] != lent[i]), least)
-    z = next((i for i in range(least - a) if text[-1 - i] != lent[-1 - i]), least - a)
-    return a, len(lent) - z, len(text) - z
-
-
 def alter(text):
     """The text that is lent, altered in one place; the same text takes no line."""
     if text == lent:
         return
-    start, end, to = altered_part(text)
-    read.append(('s' + number(start) + number(end - start) + number(to - start) + text[start:to].hex() + '\n').encode())
+    least = min(len(text), len(lent))
+    a = next((i for i in range(least) if text[i] != lent[i]), least)
+    z = next((i for i in range(least - a) if text[-1 - i] != lent[-1 - i]), least - a)
+    put = text[a:len(text) - z]
+    read.append(('s' + number(a) + number(len(lent) - z - a) + number(len(put)) + put.hex() + '\n').encode())
 
 
 def answered(kind, text, output):
@@ -72,7 +64,8 @@ def refused(number, place):
 # ---- cards
 
 def card(text):
-    answered('c', text, landed.card_program(text))
+    output = oracle.check_card_text(text)
+    answered('c', text, output if isinstance(output, bytes) else output.encode())
     return written[-1]
 
 
@@ -97,46 +90,30 @@ for item in v['tampered_texts']:
 # what the check of a signature refuses: h1, h3, a sibling seed, a product offset, c of the first frame and of the last, public key, message
 for at in (32, 64, 96, 96 + 312, 96 + 396, 96 + 480 * 40 + 396):
     changed = signature[:at] + bytes([signature[at] ^ 1]) + signature[at + 1:]
-    card(landed.write_text(public_key, message, changed))
-card(landed.write_text(public_key[:31] + bytes([public_key[31] ^ 1]), message, signature))
-card(landed.write_text(public_key, message[:-1] + bytes([message[-1] ^ 1]), signature))
-# slip 1's
-FOLDER = os.path.join(sys.argv[1], 'vectors', 'slips')
-with open(os.path.join(FOLDER, 'texts_L01.json')) as file:
-    items = json.load(file)['cases']
-with open(os.path.join(FOLDER, 'text_L01_set0.card'), 'rb') as file:
-    text = file.read()
-lend(text)
-left_out = 0
-for item in items:
-    altered = apply(text if item['base'] else b'', changes_from_json(item['changes']))
-    start, _, to = altered_part(altered)
-    if to - start > 10000:
-        left_out += 1
-        continue
-    assert card(altered) == item['expected_output'].encode(), item['name']
-    count += 1
-assert left_out == 9
+    card(oracle.write_card_text(public_key, message, changed))
+card(oracle.write_card_text(public_key[:31] + bytes([public_key[31] ^ 1]), message, signature))
+card(oracle.write_card_text(public_key, message[:-1] + bytes([message[-1] ^ 1]), signature))
 # the longest message, a digit more, two more; bytes behind it
-longest = bytes(landed.FIGURES.message_limit)
-made = landed.seal(key, public_key, longest, salt, seeds)
+longest = bytes(32768)
+made = oracle.seal(key, public_key, longest, salt, seeds)
 assert made[0] == 'accepted'
-text = landed.write_text(public_key, longest, made[1])
-assert len(text) == 47852
+text = oracle.write_card_text(public_key, longest, made[1])
+assert len(text) == 105196
 lend(text)
 assert card(text) == b'accepted\n'
-assert card(text[:65] + b'0' + text[65:]) == card(text[:65] + b'00' + text[65:]) == refused(18, 2)
-assert card(text + b'\n') == refused(18, 45)
+card(text[:65] + b'0' + text[65:])
+card(text[:65] + b'00' + text[65:])
+card(text + b'\n')
 
 # ---- samples
 
 pigments = b'PB29 12,5\nPW6 250\nPY42 0,75\n'
 drawn = hashlib.shake_128(b'samples').digest(688)
-made = landed.seal(key, public_key, pigments, drawn[:32], drawn[32:])
+made = oracle.seal(key, public_key, pigments, drawn[:32], drawn[32:])
 assert made[0] == 'accepted'
-honest = landed.write_text(public_key, pigments, made[1])
+honest = oracle.write_card_text(public_key, pigments, made[1])
 samples = (('honest', honest), ('cut', honest[:20000]),
-           ('altered', landed.write_text(public_key, pigments.replace(b'12,5', b'72,5'), made[1])))
+           ('altered', oracle.write_card_text(public_key, pigments.replace(b'12,5', b'72,5'), made[1])))
 lend(honest)
 os.makedirs('samples', exist_ok=True)
 answers = []
@@ -146,10 +123,10 @@ for name, text in samples:
     answers.append('%s.card: %s' % (name, card(text).decode()))
 stranger, pigments = vectors[1], b'PB29 999,9\nPW6 250\n'
 stranger_key = bytes.fromhex(stranger['public_key'])
-made = landed.seal(bytes.fromhex(stranger['key']), stranger_key, pigments, drawn[:32], drawn[32:])
+made = oracle.seal(bytes.fromhex(stranger['key']), stranger_key, pigments, drawn[:32], drawn[32:])
 assert made[0] == 'accepted' and stranger_key != public_key
 with open('samples/stranger.card', 'wb') as file:
-    file.write(landed.write_text(stranger_key, pigments, made[1]))
+    file.write(oracle.write_card_text(stranger_key, pigments, made[1]))
 answers.append('stranger.card: accepted\n')
 with open('samples/keys', 'wb') as file:
     file.write(line(public_key))
@@ -176,13 +153,13 @@ for n in range(5):
         answered('r', text[:start] + text[start + 2:], refused(18, n + 1))
 answered('r', text + b'\n', refused(18, 6))
 for item in ([bytes(16)] + request[1:], request[:1] + [public_key[:16] + bytes(16)] + request[2:]):
-    made = landed.seal(*item)
+    made = oracle.seal(*item)
     answered('r', b''.join(map(line, item)), refused(*made[1:]))
 
 # ---- pairs of key and plaintext
 
 def pair(key, plaintext):
-    made = landed.make_public_key(key, plaintext)
+    made = oracle.make_public_key(key, plaintext)
     return line(made[1]) if made[0] == 'accepted' else refused(*made[1:])
 
 

@@ -8,7 +8,7 @@ import hashlib
 
 from cryptography.hazmat.primitives.ciphers import Cipher, algorithms, modes
 
-import landed
+import oracle
 from lines import call
 
 EXAMPLE = bytes(range(16)), bytes(range(0, 256, 17))
@@ -16,7 +16,7 @@ DRAWN = hashlib.shake_128(b'public keys').digest(20 * 32)
 PAIRS = [(DRAWN[i:i + 16], DRAWN[i + 16:i + 32]) for i in range(0, len(DRAWN), 32)]
 # the first meets no zero
 GOOD = PAIRS[0]
-assert 0 not in GOOD[0] and landed.make_public_key(*GOOD)[0] == 'accepted'
+assert 0 not in GOOD[0] and oracle.make_public_key(*GOOD)[0] == 'accepted'
 
 
 def zero_at(i):
@@ -33,7 +33,7 @@ cases += [(16, 16, 32, pair) for pair in PAIRS]
 for k, p, n, (key, plaintext) in cases:
     # a 17th byte, for the lengths of 17
     key, plaintext = (key + b'\x55')[:k], (plaintext + b'\x66')[:p]
-    answer = landed.make_public_key(key, plaintext, n)
+    answer = oracle.make_public_key(key, plaintext, n)
     if call('k', answer, key=key, public_key=plaintext, output=n) == (0, 0):
         encryptor = Cipher(algorithms.AES(key), modes.ECB()).encryptor()
         assert answer[1] == plaintext + encryptor.update(plaintext) + encryptor.finalize()

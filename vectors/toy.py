@@ -8,7 +8,7 @@ import sys
 
 sys.dont_write_bytecode = True
 from banquet import (
-    MESSAGE, Scheme, WORK, add, call, card, check_opening, check_seal, frame_of, make_public_key, open_execution, printed, refuse, seal)
+    Scheme, WORK, add, call, card, check_opening, check_seal, frame_of, make_public_key, open_execution, printed, refuse, seal)
 from field import byte
 
 
@@ -234,7 +234,7 @@ def call_rows():
     yield from make_call.refusals((1, no_key), (2, dict(plaintext=take(4, front))), (6, dict(output=fill(20, 7))), (11, zero))
     yield make_call.told()
     yield 'sign'
-    long = dict(message=fill(MESSAGE + 1, 0))
+    long = dict(message=fill(32769, 0))
     yield from sign_call.refusals(
         (1, no_key), (2, no_public_key), (3, long), (4, dict(salt=take(31, salt))), (5, dict(seeds=take(31, seeds))),
         (6, dict(output=fill(SEAL - 1, 7))), (7, short), (11, zero), (12, wrong))
@@ -244,7 +244,7 @@ def call_rows():
         (2, no_public_key), (3, long), (6, dict(file=take(SEAL - 1, signature))), (7, short), (15, dict(file=flip(signature, frame(1)[5]))))
     yield verify_call.told(file=signature + literal([0]))
     yield 'a message as long as may be'
-    yield verify_call.told(message=fill(MESSAGE, 0), file=take(SEAL - 1, signature))
+    yield verify_call.told(message=fill(32768, 0), file=take(SEAL - 1, signature))
     yield 'open an execution'
     yield from open_call.refusals(
         (1, no_key), (2, no_public_key), (4, dict(salt=take(31, salt))), (4, dict(r=literal([250, 0]))), (5, dict(root=take(15, seeds))),
@@ -414,9 +414,9 @@ def card_rows():
 
 def text_rows():
     yield 'how many digits a message may have'
-    for n in (0, 1, 2 * MESSAGE, 2 * MESSAGE + 1, 2 * MESSAGE + 2):
+    for n in (0, 1, 65536, 65537, 65538):
         text = hexadecimal(public_key.value) + b'0' * n + b'\n'
-        yield 'choose (hasSize true messageLimit %d) (1 ∷ []) (0 ∷ [])' % n, [int(card(TOY, text) == (18, 3))]
+        yield 'choose (hasSize true 32768 %d) (1 ∷ []) (0 ∷ [])' % n, [int(card(TOY, text) == (18, 3))]
     yield 'what is printed'
     for verdict in ((0, 0), (18, 1), (1, 0), (9, 0), (11, 199), (14, 16), (15, 40), (18, 45), (10, 100)):
         yield 'printed (verdict %d %d)' % verdict, printed(*verdict)
@@ -457,7 +457,6 @@ use Rattle·slices.specs.Lists.{choose, part, put}
 use Rattle·banquet.specs.declared.Verdict.{Verdict}
 use Rattle·banquet.specs.declared.Answer.{Answer}
 use Rattle·banquet.specs.declared.Answer.the-variants.{Accepted}
-use Rattle·banquet.specs.Shape.{messageLimit}
 use Rattle·banquet.specs.Answer.{verdict, verdictOf, clears, workAfter, outputAfter}
 use Rattle·banquet.specs.Signer.{tapeOf, productOffsetAt}
 use Rattle·banquet.specs.Opening.{opening}

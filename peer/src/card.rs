@@ -30,9 +30,8 @@ struct Card {
 
 impl Card {
     /// "lower-case hexadecimal, one frame a line, each line ended by byte 0x0A:
-    /// public key, message (may be empty .. ), the 96 head bytes, 41 frames; then
-    /// nothing." "The card text's second line shrinks to 8,192 digits." (document
-    /// 02, slip 1)
+    /// public key, message (may be empty, at most 65,536 digits), the 96 head
+    /// bytes, 41 frames; then nothing."
     fn read(text: &[u8]) -> Result<Self, Refusal> {
         let mut lines = Lines { text, number: 0 };
         let public_key = lines.next(PUBLIC_KEY_LEN..=PUBLIC_KEY_LEN)?;

@@ -1,9 +1,8 @@
 //! The Banquet card seal of document 01, written plainly.
 //!
 //! This crate is a peer for differential tests and benchmarks. It follows
-//! document 01 and the requests of document 02 that have landed, sentence by
-//! sentence (quoted in the comments), and uses the usual names: a seal is a
-//! *signature*, a draw a *challenge*.
+//! document 01 sentence by sentence (quoted in the comments) and uses the usual
+//! names: a seal is a *signature*, a draw a *challenge*.
 //!
 //! The calls answer `Ok(())` or a [`Refusal`]. The slices lent for writing are
 //! left as document 01 says: after refusals 13 to 17 and on success the first

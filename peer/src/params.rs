@@ -1,4 +1,4 @@
-//! The numbers of document 01 and of the requests of document 02 that have landed.
+//! The numbers of document 01.
 
 /// "with 16 parties, 41 executions, lift factor 4, m1 = 10 and m2 = 20"
 pub const PARTIES: usize = 16;
@@ -23,11 +23,8 @@ pub const PUBLIC_KEY_LEN: usize = 2 * BLOCK_LEN;
 pub const SEED_LEN: usize = 16;
 pub const SALT_LEN: usize = 32;
 pub const HASH_LEN: usize = 32;
+pub const MAX_MESSAGE_LEN: usize = 32_768;
 pub const FIRST_CHALLENGE_LEN: usize = 4 * M1;
-
-/// "Cabinets should hold no more than 4,096, so that becomes the message limit
-/// in number 3." (document 02, slip 1)
-pub const MAX_MESSAGE_LEN: usize = 4_096;
 
 /// "The root seeds aren't 656 bytes (sealing)": one seed per execution.
 pub const ROOT_SEEDS_LEN: usize = EXECUTIONS * SEED_LEN;

@@ -154,7 +154,7 @@ fn refusals_of_sign_come_in_order() {
     let faults: &[Fault] = &[
         (1, 0, |arguments| arguments.key.truncate(15)),
         (2, 0, |arguments| arguments.public_key.truncate(31)),
-        (3, 0, |arguments| arguments.message.resize(4_097, 0)),
+        (3, 0, |arguments| arguments.message.resize(32_769, 0)),
         (4, 0, |arguments| arguments.salt.push(0)),
         (5, 0, |arguments| arguments.seeds.truncate(16)),
         (6, 0, |arguments| arguments.out.truncate(SIGNATURE_LEN - 1)),
@@ -253,15 +253,11 @@ fn refusals_of_verify_come_in_order() {
     let good = Arguments::new();
     let (public_key, message) = (good.public_key.clone(), good.message.clone());
     let signature = good.signature();
-    let long = vec![0; 4_097];
+    let long = vec![0; 32_769];
     let cases: &[Case] = &[
         (&public_key[..31], &long, &[], 0, 2),
-        (&[0; 33], &long, &signature, WORK_LEN, 2),
         (&[], &message, &signature, WORK_LEN, 2),
         (&public_key, &long, &[], 0, 3),
-        (&public_key, &long, &signature[..19_775], WORK_LEN, 3),
-        (&public_key, &long, &[0; 19_777], WORK_LEN, 3),
-        (&public_key, &long, &signature, WORK_LEN, 3),
         (&public_key, &message, &signature[..19_775], 0, 6),
         (&public_key, &message, &[0; 19_777], WORK_LEN, 6),
         (&public_key, &message, &signature, WORK_LEN - 1, 7),
@@ -316,7 +312,7 @@ fn a_signature_verifies_and_a_damaged_one_does_not() {
 
 #[test]
 fn shortest_and_longest_message() {
-    for message in [vec![], vec![0xa5; 4_096]] {
+    for message in [vec![], vec![0xa5; 32_768]] {
         let mut arguments = Arguments::new();
         arguments.message = message.clone();
         arguments.out.truncate(SIGNATURE_LEN);
@@ -470,11 +466,8 @@ fn card_texts() {
     bad_form(&capital, 44);
     capital[0] = b'A';
     bad_form(&capital, 1);
-    // 8,194 digits in the second line, then 8,193
-    let mut long = card_text(&public_key, &[0; 4_097], &signature);
-    bad_form(&long, 2);
-    long.remove(65);
-    bad_form(&long, 2);
+    let long = vec![0; 32_769];
+    bad_form(&card_text(&public_key, &long, &signature), 2);
     // 18 comes before a false signature
     let mut other = text.clone();
     other.push(b'0');

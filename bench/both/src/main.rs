@@ -13,11 +13,13 @@ use std::process::ExitCode;
 use std::time::Instant;
 
 /// Calls with the lengths of their messages, and how many calls a round has.
-const CALLS: [(&str, usize, u32); 6] = [
+const CALLS: [(&str, usize, u32); 8] = [
     ("sign", 0, 1),
     ("sign", 4_096, 1),
+    ("sign", 32_768, 1),
     ("verify", 0, 1),
     ("verify", 4_096, 1),
+    ("verify", 32_768, 1),
     ("open", 0, 20),
     ("verify_opening", 0, 20),
 ];

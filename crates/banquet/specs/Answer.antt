@@ -36,7 +36,7 @@ verdict_of Accepted = verdict 0 0
 verdict_of KeyLength = verdict 1 0
 -- "The public key isn't 32 bytes, or the plaintext for making one isn't 16."
 verdict_of PublicKeyLength = verdict 2 0
--- "The message is over .. bytes.": over 4,096, by document 02, slip 1
+-- "The message is over 32,768 bytes."
 verdict_of MessageLength = verdict 3 0
 -- "The salt isn't 32 bytes, or the ten given first draws aren't 40."
 verdict_of SaltLength = verdict 4 0

@@ -1,6 +1,5 @@
--- Card text: "lower-case hexadecimal, one frame a line, each line ended by byte 0x0A: public key, message (may be empty, at most .. digits), the
--- 96 head bytes, 41 frames; then nothing. It prints `accepted`, or `refused`, number, place, with single spaces and a line end." Document 02, slip 1:
--- "The card text's second line shrinks to 8,192 digits."
+-- Card text: "lower-case hexadecimal, one frame a line, each line ended by byte 0x0A: public key, message (may be empty, at most 65,536 digits), the
+-- 96 head bytes, 41 frames; then nothing. It prints `accepted`, or `refused`, number, place, with single spaces and a line end."
 use Rattle.std.specs.Prelude.{◌≡◌, refl, Bool, true, false, ◌&&◌, List, [], ◌∷◌, ◌++◌, ℕ, zero, suc, ◌+◌, ◌-◌, ◌*◌, ◌/◌, ◌%◌, eqb, ltb, leb, length, take, drop, replicate}
 use Rattle.slices.specs.Lists.{choose}
 use Rattle.slices.specs.Layout.{total}
@@ -110,7 +109,7 @@ missing_line message size sizes n rest = refl
 
 -- ---- the card
 
--- "public key, message (may be empty, at most .. digits), the 96 head bytes, 41 frames": what each line stands for, with m bytes of message
+-- "public key, message (may be empty, at most 65,536 digits), the 96 head bytes, 41 frames": what each line stands for, with m bytes of message
 abbrev pub card_sizes : Shape → ℕ → List ℕ
 card_sizes S m = public_key_length S ∷ m ∷ head_length ∷ replicate S.executions (total (frame_sizes S))
 

@@ -7,7 +7,6 @@ use Rattle.shake.specs.Shake128.{shake128}
 use Rattle.aes.specs.Aes.{key_expansion, aes, sbox_inputs, even_mansour, even_mansour_inputs}
 use Rattle.circuit.specs.Circuit.{input_shares, output_share, even_mansour_input_shares, even_mansour_output_share}
 use Rattle.banquet.specs.declared.Shape.{Shape}
-use Rattle.banquet.specs.Shape.{message_limit, work_length}
 use Rattle.banquet.specs.Figures.{Figures, figures_of}
 use Rattle.banquet.specs.Scheme.{Circuit, Scheme}
 
@@ -74,14 +73,6 @@ pub schedule_free_circuit : schedule_free_scheme.circuit ≡ even_mansour_circui
 schedule_free_circuit = refl
 
 -- ---- figures
-
--- the same in every set: "Cabinets should hold no more than 4,096, so that becomes the message limit in number 3."; "The work slice .. is under 65,536
--- bytes."
-pub message_limit_lem : message_limit ≡ 4096
-message_limit_lem = refl
-
-pub work_length_lem : work_length ≡ 65536
-work_length_lem = refl
 
 abbrev pub base_figures : Figures
 base_figures = record {

@@ -6,9 +6,9 @@ use Rattle.std.proofs.Math.Nat.{mod-add-div}
 use Rattle.slices.specs.Layout.{total}
 use Rattle.banquet.specs.declared.Shape.{Shape}
 
--- Document 02, slip 1: "Cabinets should hold no more than 4,096, so that becomes the message limit in number 3."
+-- "The message is over 32,768 bytes."
 abbrev pub message_limit : ℕ
-message_limit = 4096
+message_limit = 32768
 
 -- "The work slice .. is under 65,536 bytes."
 abbrev pub work_length : ℕ

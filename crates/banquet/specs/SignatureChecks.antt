@@ -74,15 +74,14 @@ module _ (𝓢 : Scheme) (F : Figures) where
   SignatureChecked =
       (public_key message s work : List ℕ) → ((verify 𝓢 public_key message s work).answer ≡ Accepted) ⇔ SignatureHolds 𝓢 F public_key message s work
 
-  -- "so that becomes the message limit in number 3": over it, and with a public key of its length, the check refuses as 3, whatever the message's
-  -- bytes and the signature are, and the work slice stays as it was.
+  -- "The message is over 32,768 bytes.": refused as 3, whatever its bytes are, and the work slice stays as it was.
   abbrev pub MessageRefused : Type 0
   MessageRefused =
       (public_key message s work : List ℕ) → length public_key ≡ F.public_key → message_limit < length message
       → verify 𝓢 public_key message s work ≡ checked MessageLength work
 
-  -- "one of 4,097 turned down", and every longer one: with a key and a public key of their lengths signing refuses it as 3, whatever the message's
-  -- bytes, the salt, the seeds and the slices are, and leaves both slices as they were.
+  -- The same of signing: with a key and a public key of their lengths it refuses such a message as 3, whatever the message's bytes, the salt, the seeds
+  -- and the slices are, and leaves both slices as they were.
   abbrev pub MessageNotSigned : Type 0
   MessageNotSigned =
       (key public_key message salt seeds output work : List ℕ) → length key ≡ 16 → length public_key ≡ F.public_key → message_limit < length message

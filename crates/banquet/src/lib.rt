@@ -1,7 +1,7 @@
 // The types and limits that contracts and definitions share; specs/ defines the scheme.
 
-// Document 02, slip 1: "Cabinets should hold no more than 4,096, so that becomes the message limit in number 3."
-pub const MESSAGE_LIMIT: usize = 4096;
+// "The message is over 32,768 bytes."
+pub const MESSAGE_LIMIT: usize = 32768;
 
 // "The work slice .. is under 65,536 bytes."
 pub const WORK_LENGTH: usize = 65536;

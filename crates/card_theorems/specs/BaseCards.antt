@@ -6,12 +6,12 @@ use Rattle.theorems.specs.Sets.{base_laws}
 use Rattle.card_theorems.specs.Cards.{card_length}
 use Rattle.card_theorems.specs.CardOutput as outputs
 
--- the longest card: public key, 4,096 bytes of message and 19,776 of signature by two digits each, and 44 line ends
-pub longest_card : card_length base message_limit ≡ 47852
+-- the longest card: public key, 32,768 bytes of message and 19,776 of signature by two digits each, and 44 line ends
+pub longest_card : card_length base message_limit ≡ 105196
 longest_card = refl
 
--- "The card text's second line shrinks to 8,192 digits."
-pub longest_line : 2 * message_limit ≡ 8192
+-- "at most 65,536 digits"
+pub longest_line : 2 * message_limit ≡ 65536
 longest_line = refl
 
 pub second_line_refused : outputs.SecondLineRefused base_scheme base_figures

@@ -28,7 +28,7 @@ room = replicate work_length 0
 abbrev pub OutputCut : Scheme → Type 0
 OutputCut 𝓢 = (text : List ℕ) → card_output 𝓢 (take (suc (card_length 𝓢.shape message_limit)) text) ≡ card_output 𝓢 text
 
--- "The card text's second line shrinks to 8,192 digits.": behind a first line in form, a second one with more digits, or with an odd count of them, is
+-- "at most 65,536 digits": behind a first line in form, a second one with more digits, or with an odd count of them, is
 -- refused as 18 with place 2, whatever its bytes are and whatever stands behind it.
 abbrev pub SecondLineRefused : Scheme → Figures → Type 0
 SecondLineRefused 𝓢 F =

@@ -6,7 +6,7 @@ ghost use Rattle.banquet.specs.Opening.{range_tests};
 ghost use Rattle.banquet.specs.Calls.{public_key_tests, sign_tests, verify_tests, open_tests, verify_opening_tests};
 ghost use Rattle.sets.specs.Valid.{Valid};
 
-use banquet::{Answer, MESSAGE_LIMIT, Shape};
+use banquet::{Answer, Shape};
 
 // Make a public key.
 pub fn public_key(shape: Shape, key: usize, plaintext: usize, output: usize) -> Answer
@@ -45,7 +45,7 @@ pub fn sign(
     if public != sets::public_key_length(shape) {
         return Answer::PublicKeyLength;
     }
-    if MESSAGE_LIMIT < message {
+    if banquet::MESSAGE_LIMIT < message {
         return Answer::MessageLength;
     }
     if salt != 32 {
@@ -71,7 +71,7 @@ pub fn verify(shape: Shape, public: usize, message: usize, signature: usize, wor
     if public != sets::public_key_length(shape) {
         return Answer::PublicKeyLength;
     }
-    if MESSAGE_LIMIT < message {
+    if banquet::MESSAGE_LIMIT < message {
         return Answer::MessageLength;
     }
     if signature != frames::signature_length(shape) {

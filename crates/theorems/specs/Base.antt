@@ -5,6 +5,7 @@ use Rattle.field.specs.Wide32.{low32}
 use Rattle.field.specs.Wide.{ops}
 use Rattle.poly.specs.Field.{Ops}
 use Rattle.aes.specs.Aes as aes
+use Rattle.banquet.specs.Shape.{message_limit, work_length}
 use Rattle.banquet.specs.Scheme.{GoodKey, wide_ops}
 use Rattle.banquet.specs.Card.{refused_word, card_output}
 use Rattle.banquet.specs.Sets.{base_scheme, base_figures, base_figures_lem}
@@ -17,7 +18,12 @@ use Rattle.theorems.specs.Complete as complete
 use Rattle.theorems.specs.EmptyCard as cards
 
 -- The figures are those of `banquet/Sets.base_figures`: 16 parties, 41 executions, ten first draws, twenty rows, at most 40 roots, a public key of 32
--- bytes, a signature of 19,776 and an opening of 2,554. Two are the same in every set and stand beside them, `message_limit_lem`, 4,096, and `work_length_lem`.
+-- bytes, a signature of 19,776 and an opening of 2,554. The same in every set: "The message is over 32,768 bytes."; "The work slice .. is under 65,536 bytes."
+pub message_limit_lem : message_limit ≡ 32768
+message_limit_lem = refl
+
+pub work_length_lem : work_length ≡ 65536
+work_length_lem = refl
 
 -- good keys are AES-128's, and wide elements are counted "modulo X^32 + X^7 + X^3 + X^2 + 1"
 pub good_key : (plaintext ciphertext key : List ℕ) → GoodKey base_scheme plaintext ciphertext key ≡ aes.GoodKey plaintext ciphertext key
@@ -31,8 +37,8 @@ wide_field = refl
 pub demand_3 : Demand3 base_scheme base_figures
 demand_3 = soundness.demand_3 base_scheme base_laws base_figures_lem
 
--- ---- an opening, and a signature, is accepted exactly where every check holds; a message over the limit is neither checked nor signed, and a
--- signature that was cut short or lengthened is refused
+-- ---- an opening, and a signature, is accepted exactly where every check holds; a message over the limit, and a
+-- signature that was cut short or lengthened, are refused
 
 pub opening_checked_lem : openings.OpeningChecked base_scheme base_figures
 opening_checked_lem = openings.opening_checked_lem base_scheme base_figures_lem

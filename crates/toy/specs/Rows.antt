@@ -4,7 +4,6 @@ use Rattle.slices.specs.Lists.{choose, part, put}
 use Rattle.banquet.specs.declared.Verdict.{Verdict}
 use Rattle.banquet.specs.declared.Answer.{Answer}
 use Rattle.banquet.specs.declared.Answer.TheVariants.{Accepted}
-use Rattle.banquet.specs.Shape.{message_limit}
 use Rattle.banquet.specs.Answer.{verdict, verdict_of, clears, work_after, output_after}
 use Rattle.banquet.specs.Signer.{tape_of, product_offset_at}
 use Rattle.banquet.specs.Opening.{opening}
@@ -79,9 +78,9 @@ calls work =
     ∷ (verdict_of (public_key_answer toy (put key 0 (100 ∷ [])) plaintext (replicate 24 7)), verdict 11 0)
     ∷ (verdict_of (public_key_answer toy key plaintext (replicate 24 7)), verdict 0 0)
     -- sign
-    ∷ (verdict_of (sign_answer toy (take 15 key) (take 20 public_key) (replicate 4097 0) (take 31 salt) (take 31 seeds) (replicate 267 7) (drop 1 work)), verdict 1 0)
-    ∷ (verdict_of (sign_answer toy (put key 0 (100 ∷ [])) (take 20 public_key) (replicate 4097 0) (take 31 salt) (take 31 seeds) (replicate 267 7) (drop 1 work)), verdict 2 0)
-    ∷ (verdict_of (sign_answer toy (put key 0 (100 ∷ [])) public_key (replicate 4097 0) (take 31 salt) (take 31 seeds) (replicate 267 7) (drop 1 work)), verdict 3 0)
+    ∷ (verdict_of (sign_answer toy (take 15 key) (take 20 public_key) (replicate 32769 0) (take 31 salt) (take 31 seeds) (replicate 267 7) (drop 1 work)), verdict 1 0)
+    ∷ (verdict_of (sign_answer toy (put key 0 (100 ∷ [])) (take 20 public_key) (replicate 32769 0) (take 31 salt) (take 31 seeds) (replicate 267 7) (drop 1 work)), verdict 2 0)
+    ∷ (verdict_of (sign_answer toy (put key 0 (100 ∷ [])) public_key (replicate 32769 0) (take 31 salt) (take 31 seeds) (replicate 267 7) (drop 1 work)), verdict 3 0)
     ∷ (verdict_of (sign_answer toy (put key 0 (100 ∷ [])) public_key message (take 31 salt) (take 31 seeds) (replicate 267 7) (drop 1 work)), verdict 4 0)
     ∷ (verdict_of (sign_answer toy (put key 0 (100 ∷ [])) public_key message salt (take 31 seeds) (replicate 267 7) (drop 1 work)), verdict 5 0)
     ∷ (verdict_of (sign_answer toy (put key 0 (100 ∷ [])) public_key message salt seeds (replicate 267 7) (drop 1 work)), verdict 6 0)
@@ -90,14 +89,14 @@ calls work =
     ∷ (verdict_of (sign_answer toy (put key 9 (58 ∷ [])) public_key message salt seeds (replicate 271 7) work), verdict 12 0)
     ∷ (verdict_of (sign_answer toy key public_key message salt seeds (replicate 271 7) work), verdict 0 0)
     -- check a signature, of which the rest is below
-    ∷ (verdict_of (verify_answer toy (take 20 public_key) (replicate 4097 0) (take 267 signature_file) (drop 1 work)), verdict 2 0)
-    ∷ (verdict_of (verify_answer toy public_key (replicate 4097 0) (take 267 signature_file) (drop 1 work)), verdict 3 0)
+    ∷ (verdict_of (verify_answer toy (take 20 public_key) (replicate 32769 0) (take 267 signature_file) (drop 1 work)), verdict 2 0)
+    ∷ (verdict_of (verify_answer toy public_key (replicate 32769 0) (take 267 signature_file) (drop 1 work)), verdict 3 0)
     ∷ (verdict_of (verify_answer toy public_key message (take 267 signature_file) (drop 1 work)), verdict 6 0)
     ∷ (verdict_of (verify_answer toy public_key message (put signature_file 265 (215 ∷ [])) (drop 1 work)), verdict 7 0)
     ∷ (verdict_of (verify_answer toy public_key message (put signature_file 265 (215 ∷ [])) work), verdict 15 1)
     ∷ (verdict_of (verify_answer toy public_key message (signature_file ++ (0 ∷ [])) work), verdict 6 0)
     -- a message as long as may be
-    ∷ (verdict_of (verify_answer toy public_key (replicate 4096 0) (take 267 signature_file) work), verdict 6 0)
+    ∷ (verdict_of (verify_answer toy public_key (replicate 32768 0) (take 267 signature_file) work), verdict 6 0)
     -- open an execution
     ∷ (verdict_of (open_answer toy (take 15 key) (take 20 public_key) (take 31 salt) (take 15 seeds) (250 ∷ 0 ∷ []) 2 0 3 (replicate 239 7) (drop 1 work)), verdict 1 0)
     ∷ (verdict_of (open_answer toy (put key 0 (100 ∷ [])) (take 20 public_key) (take 31 salt) (take 15 seeds) (250 ∷ 0 ∷ []) 2 0 3 (replicate 239 7) (drop 1 work)), verdict 2 0)
@@ -291,11 +290,11 @@ cards =
 abbrev pub texts : List (Row (List ℕ))
 texts =
     -- how many digits a message may have
-    (choose (has_size true message_limit 0) (1 ∷ []) (0 ∷ []), 1 ∷ [])
-    ∷ (choose (has_size true message_limit 1) (1 ∷ []) (0 ∷ []), 0 ∷ [])
-    ∷ (choose (has_size true message_limit 8192) (1 ∷ []) (0 ∷ []), 1 ∷ [])
-    ∷ (choose (has_size true message_limit 8193) (1 ∷ []) (0 ∷ []), 0 ∷ [])
-    ∷ (choose (has_size true message_limit 8194) (1 ∷ []) (0 ∷ []), 0 ∷ [])
+    (choose (has_size true 32768 0) (1 ∷ []) (0 ∷ []), 1 ∷ [])
+    ∷ (choose (has_size true 32768 1) (1 ∷ []) (0 ∷ []), 0 ∷ [])
+    ∷ (choose (has_size true 32768 65536) (1 ∷ []) (0 ∷ []), 1 ∷ [])
+    ∷ (choose (has_size true 32768 65537) (1 ∷ []) (0 ∷ []), 0 ∷ [])
+    ∷ (choose (has_size true 32768 65538) (1 ∷ []) (0 ∷ []), 0 ∷ [])
     -- what is printed
     ∷ (printed (verdict 0 0), 97 ∷ 99 ∷ 99 ∷ 101 ∷ 112 ∷ 116 ∷ 101 ∷ 100 ∷ 10 ∷ [])
     ∷ (printed (verdict 18 1), 114 ∷ 101 ∷ 102 ∷ 117 ∷ 115 ∷ 101 ∷ 100 ∷ 32 ∷ 49 ∷ 56 ∷ 32 ∷ 49 ∷ 10 ∷ [])

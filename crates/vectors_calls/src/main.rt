@@ -6,17 +6,16 @@
 //    60  the public key, or the plaintext that one is made of;
 //   100  the salt;
 //   200  the root seeds, or the one of an opening;
-//  1000  the message, the first challenge of an opening, or the signature that a frame is read from;
+//  1000  the message, or the first challenge of an opening;
 // 34000  the file: the signature or opening that is checked, or what is to be written.
 // The kind is k where a public key is made, s where a message is signed, v where a signature is checked, o where an execution is opened, c where an
-// opening is checked, f where an execution's frame is read, which the output then begins with, i where nothing is called. Before a call output and work
-// are ee throughout. After it the file is added to what is to be the file's of the output. Written are the answer's number and place, where the work's
-// zeros end, where its ee after them end, and the same of the output. vectors/calls.py says where the lines are from.
+// opening is checked, i where nothing is called. Before a call output and work are ee throughout. After it the file is added to what is to be the
+// file's of the output. Written are the answer's number and place, where the work's zeros end, where its ee after them end, and the same of the output.
+// vectors/calls.py says where the lines are from.
 ghost use Rattle.std.specs.Prelude.{◌≡◌, ◌+◌, ◌*◌, ◌≤◌, length};
 
 use banquet::Answer;
 use libc::{STDIN_FILENO, STDOUT_FILENO};
-use sets::Parties16;
 
 // Bytes in hexadecimal.
 fn read(text: &mut [u8], out: &mut [u8])
@@ -65,15 +64,6 @@ fn read_line(lent: &mut [u8]) -> u8
     kind[0]
 }
 
-// The output begins with the frame, if it has room for it.
-fn put_frame(frame: &[u8], output: &mut [u8]) -> Answer {
-    let n = frame.len();
-    if n <= output.len() {
-        slices::copy(&mut output[0..n], frame);
-    }
-    Answer::Accepted
-}
-
 fn call(kind: u8, lent: &[u8], output: &mut [u8], work: &mut [u8]) -> Answer
     requires { length lent.now ≡ 53800 }
 {
@@ -94,10 +84,6 @@ fn call(kind: u8, lent: &[u8], output: &mut [u8], work: &mut [u8]) -> Answer
             openings::open(
                 key, public_key, salt, seeds, message, e, second, hidden, output, work,
             )
-        }
-        b'f' => {
-            let e = numbers::load(lent, 27, 3) as usize;
-            put_frame(frames::frame(Parties16::SHAPE, message, e), output)
         }
         _ => openings::verify_opening(public_key, file, work),
     }

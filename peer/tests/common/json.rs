@@ -5,7 +5,7 @@ use std::collections::BTreeMap;
 pub enum Json {
     Null,
     Bool(bool),
-    Number(i128),
+    Number(i64),
     Text(String),
     List(Vec<Json>),
     Object(BTreeMap<String, Json>),
@@ -20,15 +20,13 @@ impl Json {
         value
     }
 
-    pub fn find(&self, name: &str) -> Option<&Json> {
+    pub fn get(&self, name: &str) -> &Json {
         match self {
-            Json::Object(object) => object.get(name),
+            Json::Object(object) => object
+                .get(name)
+                .unwrap_or_else(|| panic!("no entry {name}")),
             _ => panic!("{name} wanted of something else than an object"),
         }
-    }
-
-    pub fn get(&self, name: &str) -> &Json {
-        self.find(name).unwrap_or_else(|| panic!("no entry {name}"))
     }
 
     pub fn list(&self) -> &[Json] {
@@ -45,16 +43,11 @@ impl Json {
         }
     }
 
-    pub fn number(&self) -> i128 {
+    pub fn number(&self) -> i64 {
         match self {
             Json::Number(number) => *number,
             _ => panic!("not a number"),
         }
-    }
-
-    /// A number of bytes.
-    pub fn length(&self) -> usize {
-        self.number().try_into().expect("a length")
     }
 
     pub fn is_null(&self) -> bool {

@@ -66,11 +66,11 @@ pub const OPENING_LEN: usize = 2_554;
 /// The least length of a work slice.
 pub const WORK_LEN: usize = 65_536;
 /// The greatest length of a message.
-pub const MAX_MESSAGE_LEN: usize = 4_096;
+pub const MAX_MESSAGE_LEN: usize = 32_768;
 /// The greatest length of a card text: two digits a byte and 44 line ends.
 pub const MAX_CARD_LEN: usize = 2 * (PUBLIC_KEY_LEN + MAX_MESSAGE_LEN + SIGNATURE_LEN) + 44;
 /// Stack that is enough for one call, with margin.
-pub const STACK_LEN: usize = 65_536;
+pub const STACK_LEN: usize = 131_072;
 /// Executions are 0 to 40.
 pub const EXECUTIONS: u32 = 41;
 /// Parties are 0 to 15.
@@ -123,7 +123,7 @@ pub fn public_key(key: &Key, plaintext: &Plaintext) -> Result<PublicKey, Refusal
     Ok(out)
 }
 
-/// Signs a message of at most 4,096 bytes.
+/// Signs a message of at most 32,768 bytes.
 ///
 /// `salt` and `seeds` are random and new for every signature; whoever knows `seeds` can work out
 /// the key.

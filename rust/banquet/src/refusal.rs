@@ -12,7 +12,7 @@ pub enum Refusal {
     KeyLength,
     /// 2: the public key is not 32 bytes, or the plaintext for making one not 16.
     PublicKeyLength,
-    /// 3: the message is over 4,096 bytes.
+    /// 3: the message is over 32,768 bytes.
     MessageLength,
     /// 4: the salt is not 32 bytes, or the first challenge not 40.
     SaltLength,
@@ -106,7 +106,7 @@ impl Refusal {
         match self {
             Self::KeyLength => "the key is not 16 bytes",
             Self::PublicKeyLength => "the public key is not 32 bytes, or the plaintext not 16",
-            Self::MessageLength => "the message is over 4,096 bytes",
+            Self::MessageLength => "the message is over 32,768 bytes",
             Self::SaltLength => "the salt is not 32 bytes, or the first challenge not 40",
             Self::SeedLength => "the seeds are not 656 bytes, or the seed for opening not 16",
             Self::FileLength => {

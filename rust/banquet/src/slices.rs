@@ -33,7 +33,7 @@ pub fn public_key(key: &[u8], plaintext: &[u8], out: &mut [u8]) -> Result<(), Re
     answer(code)
 }
 
-/// Signs a message of at most 4,096 bytes, under a salt of 32 bytes and 656 bytes of seeds, both
+/// Signs a message of at most 32,768 bytes, under a salt of 32 bytes and 656 bytes of seeds, both
 /// random and new: the first 19,776 bytes of `out`.
 ///
 /// # Errors

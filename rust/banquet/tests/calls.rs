@@ -51,11 +51,6 @@ fn what_is_signed_is_accepted() {
         let text = card(&public_key, message, &*signature);
         assert_eq!(banquet::verify_card(text.as_bytes()), Ok(()));
     }
-    let longer = [0x5a; banquet::MAX_MESSAGE_LEN + 1];
-    assert_eq!(
-        banquet::sign(&key, &public_key, &longer, &SALT, &SEEDS),
-        Err(Refusal::MessageLength)
-    );
 }
 
 #[test]

@@ -28,8 +28,8 @@ pub struct Fixtures {
 /// Second challenges at the ends of the range and among the points of the polynomials.
 const SECOND_CHALLENGES: [u32; 7] = [20, 21, 39, 40, 41, 0x8000_0000, u32::MAX];
 
-/// Lengths of messages: none, around a block of SHAKE128, the longest issued and the longest.
-const MESSAGE_LENGTHS: [usize; 8] = [0, 1, 18, 100, 101, 168, 4_071, 4_096];
+/// Lengths of messages: none, the longest, and around a block of SHAKE128.
+const MESSAGE_LENGTHS: [usize; 8] = [0, 1, 18, 100, 101, 168, 4_096, 32_768];
 
 impl Fixtures {
     pub fn new(rng: &mut Rng) -> Self {

@@ -234,7 +234,7 @@ fn key_mutations(call: Call) -> Vec<Mutation> {
 }
 
 fn message_mutations() -> Vec<Mutation> {
-    [4_095, 4_096, 4_097, 32_768]
+    [32_767, 32_768, 32_769]
         .into_iter()
         .map(|len| {
             Mutation::of("message", &format!("of {len} bytes"), move |bytes, rng| {
@@ -247,7 +247,7 @@ fn message_mutations() -> Vec<Mutation> {
                 resize(bytes, len, rng);
             }),
             Mutation::of("message", "far too long", |bytes, rng| {
-                let len = 4_097 + rng.below(70_000);
+                let len = 32_769 + rng.below(40_000);
                 resize(bytes, len, rng);
             }),
         ])
@@ -606,14 +606,14 @@ fn text_mutations() -> Vec<Mutation> {
             text.extend_from_slice(&[b'0'; 960]);
             text.push(b'\n');
         }),
-        in_text("a message of 4,096 bytes", |text, rng| {
-            set_message(text, 8_192, rng);
+        in_text("a message of 32,768 bytes", |text, rng| {
+            set_message(text, 65_536, rng);
         }),
-        in_text("a message of 8,193 digits", |text, rng| {
-            set_message(text, 8_193, rng);
+        in_text("a message of 65,537 digits", |text, rng| {
+            set_message(text, 65_537, rng);
         }),
-        in_text("a message of 4,097 bytes", |text, rng| {
-            set_message(text, 8_194, rng);
+        in_text("a message of 32,769 bytes", |text, rng| {
+            set_message(text, 65_538, rng);
         }),
         in_text("a message far too long", |text, rng| {
             set_message(text, 200_000, rng);
