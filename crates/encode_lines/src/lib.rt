@@ -13,7 +13,7 @@ pub fn encode_lines(s: &[u8], sizes: &[usize], out: &mut [u8])
         let q = p + sizes[i];
         let a = 2 * p + i;
         let b = 2 * q + i;
-        hex::encode(&s[p..q], &mut out[a..b]);
+        hex_digits::encode(&s[p..q], &mut out[a..b]);
         out[b] = b'\n';
         p = q;
     }

@@ -12,7 +12,7 @@ use Rattle.banquet.specs.Signature.{signature}
 use Rattle.banquet.specs.Calls.{sign_answer}
 use Rattle.banquet.specs.Card.{after_line, line_of, decoded_line, check_lines, card_text, accepted_word, printed, card_output}
 use Rattle.banquet.specs.Sets.{base, base_scheme}
-use Rattle.hex.specs.Hex.{decoded_bytes}
+use Rattle.hex_digits.specs.Hex.{decoded_bytes}
 use Rattle.text_lines.specs.Form.{Broken, form_or_broken, form_split, form_length, form_most}
 use Rattle.text_lines.specs.Cut.{cut_answer}
 use Rattle.card_theorems.specs.BaseCards.{signed_card_accepted}

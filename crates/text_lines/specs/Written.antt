@@ -10,7 +10,7 @@ use Rattle.banquet.specs.declared.Answer.{Answer}
 use Rattle.banquet.specs.declared.Answer.TheVariants.{TextForm}
 use Rattle.banquet.specs.Answer.{require}
 use Rattle.banquet.specs.Card.{all_digits, decoded, digit_of, encoded, line_of, after_line, decoded_lines, encoded_lines, has_size, is_line, check_lines}
-use Rattle.hex.specs.Hex.{digit_no_end, length_encoded, encoded_digits, decoded_encoded}
+use Rattle.hex_digits.specs.Hex.{digit_no_end, length_encoded, encoded_digits, decoded_encoded}
 
 -- ---- a line
 

@@ -14,7 +14,7 @@ fn line_end(text: &[u8], from: usize) -> usize
     ensures { result ≡ from + line_end (drop from text.now) }
 {
     for i in from..text.len() {
-        let found = hex::symbol(text[i]);
+        let found = hex_digits::symbol(text[i]);
         match found {
             Symbol::Value(_) => {}
             Symbol::LineEnd => return i,
@@ -69,7 +69,7 @@ fn decode_lines(text: &[u8], sizes: &[usize], message: usize, out: &mut [u8])
     for _ in 0..sizes.len() {
         let end = line_end(text, at);
         let q = p + (end - at) / 2;
-        hex::decode(&text[at..end], &mut out[p..q]);
+        hex_digits::decode(&text[at..end], &mut out[p..q]);
         at = end + 1;
         p = q;
     }

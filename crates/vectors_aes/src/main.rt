@@ -12,7 +12,7 @@ fn print(s: &[u8])
     let mut text = [0u8; 400];
     let end = 2 * s.len();
     let digits = &mut text[0..end];
-    hex::encode(s, digits);
+    hex_digits::encode(s, digits);
     io::write_all(STDOUT_FILENO, digits);
     io::write_all(STDOUT_FILENO, b" ");
 }
@@ -21,9 +21,9 @@ fn encrypt(line: &[u8], inputs: &mut [u8]) -> [u8; 16]
     requires { (length line.now ≡ 66) × (length inputs.old ≡ 200) }
 {
     let mut key = [0u8; 16];
-    hex::decode(&line[0..32], &mut key);
+    hex_digits::decode(&line[0..32], &mut key);
     let mut plaintext = [0u8; 16];
-    hex::decode(&line[33..65], &mut plaintext);
+    hex_digits::decode(&line[33..65], &mut plaintext);
     cipher::encrypt(&key, &plaintext, inputs)
 }
 

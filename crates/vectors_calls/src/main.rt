@@ -22,7 +22,7 @@ fn read(text: &mut [u8], out: &mut [u8])
     requires { length text.old ≡ 2 * length out.old }
 {
     io::read_full(STDIN_FILENO, text);
-    hex::decode(text, out);
+    hex_digits::decode(text, out);
 }
 
 // Where a part ends that begins at `from` and has as many bytes as the number at index `at` says: at most at `most`.

@@ -22,7 +22,7 @@ fn read(text: &mut [u8], out: &mut [u8])
     requires { length text.old ≡ 2 * length out.old }
 {
     io::read_full(STDIN_FILENO, text);
-    hex::decode(text, out);
+    hex_digits::decode(text, out);
 }
 
 // The next byte, or 0 where there is none: a line's kind, or its end.

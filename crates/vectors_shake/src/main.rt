@@ -14,7 +14,7 @@ fn fill(input: &mut [u8]) {
 fn write(s: &[u8], text: &mut [u8])
     requires { length text.old ≡ 2 * length s.now }
 {
-    hex::encode(s, text);
+    hex_digits::encode(s, text);
     io::write_all(STDOUT_FILENO, text);
 }
 

@@ -13,7 +13,7 @@ use Rattle.banquet.specs.declared.Shape.{Shape}
 use Rattle.banquet.specs.Shape.{public_key_length, signature_length}
 use Rattle.banquet.specs.Card.{encoded, encoded_lines, card_sizes, card_text}
 use Rattle.banquet.specs.Sets.{scheme_of}
-use Rattle.hex.specs.Hex.{length_encoded}
+use Rattle.hex_digits.specs.Hex.{length_encoded}
 use Rattle.card_theorems.specs.Cards.{card_length}
 use Rattle.card_sizes.specs.Lines.{lines_of, sizes_many, sizes_total, length_is, sizes_lent}
 

@@ -1,4 +1,4 @@
--- `hex::encode` meets its contract: the loop fills `out` with the digits. Assumes nothing.
+-- `hex_digits::encode` meets its contract: the loop fills `out` with the digits. Assumes nothing.
 use mathlib.Core.Path.{◌≡◌, refl, ap, ◌∙◌}
 use Prim.Native.Nat.{ℕ, ◌-◌, ◌%◌}
 use native.Mathlib.Omega.{arith}
@@ -8,9 +8,9 @@ use Rattle.slices.specs.Lists.{tab}
 use Rattle.slices.specs.Bytes.{bytes_of}
 use Rattle.slices.proofs.Fill.{Filling, filling_none, filling_more, filling_all}
 use Rattle.banquet.specs.Card.{digit_of}
-use Rattle.hex.proofs.Laws.{digit_at, tab_encoded}
-use Rattle.hex.proofs.encode.Statement.{statement}
-use Rattle.hex.proofs.encode.Tie as tie
+use Rattle.hex_digits.proofs.Laws.{digit_at, tab_encoded}
+use Rattle.hex_digits.proofs.encode.Statement.{statement}
+use Rattle.hex_digits.proofs.encode.Tie as tie
 
 abbrev invariant-loop : tie.invariant-loop
 invariant-loop s out₀ i₀ i_end out i = (i_end ≡ length out₀) × Filling (digit_at s) (length out₀) out₀ i out

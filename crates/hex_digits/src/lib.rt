@@ -1,7 +1,7 @@
 // Reads and writes "lower-case hexadecimal", the card's text.
 ghost use Rattle.std.specs.Prelude.{◌≡◌, ◌*◌, ◌<◌, length};
 ghost use Rattle.banquet.specs.Card.{symbol_of, value_of, decoded, digit_of, encoded};
-ghost use Rattle.hex.specs.Hex.{half};
+ghost use Rattle.hex_digits.specs.Hex.{half};
 
 use banquet::Symbol;
 

@@ -1,9 +1,9 @@
--- `hex::half_of` meets its contract: digit 0, and the other. Assumes nothing.
+-- `hex_digits::half_of` meets its contract: digit 0, and the other. Assumes nothing.
 use native.Mathlib.Omega.{arith}
 use borrow.Author.Tests.{eq-eqb, ne_eqb}
-use Rattle.hex.specs.Hex.{half}
-use Rattle.hex.proofs.half_of.Statement.{statement}
-use Rattle.hex.proofs.half_of.Tie as tie
+use Rattle.hex_digits.specs.Hex.{half}
+use Rattle.hex_digits.proofs.half_of.Statement.{statement}
+use Rattle.hex_digits.proofs.half_of.Tie as tie
 
 returns : tie.Need-returns
 unfolding half

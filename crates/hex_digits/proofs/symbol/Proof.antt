@@ -1,10 +1,10 @@
--- `hex::symbol` meets its contract: each arm knows in which range the byte is. Assumes nothing.
+-- `hex_digits::symbol` meets its contract: each arm knows in which range the byte is. Assumes nothing.
 use native.Mathlib.Omega.{arith}
 use borrow.Author.Rules.{rules}
 use borrow.Author.Tests.{le-leb, lt-leb, ne_eqb}
 use Rattle.banquet.specs.Card.{symbol_of}
-use Rattle.hex.proofs.symbol.Statement.{statement}
-use Rattle.hex.proofs.symbol.Tie as tie
+use Rattle.hex_digits.proofs.symbol.Statement.{statement}
+use Rattle.hex_digits.proofs.symbol.Tie as tie
 
 -- the line end
 returns : tie.Need-returns

@@ -1,10 +1,10 @@
--- `hex::value` meets its contract. Assumes nothing.
+-- `hex_digits::value` meets its contract. Assumes nothing.
 use mathlib.Core.Path.{refl}
 use borrow.Author.Rules.{rules}
 use Rattle.banquet.specs.Card.{value_of}
-use Rattle.hex.proofs.Laws.{value_is}
-use Rattle.hex.proofs.value.Statement.{statement}
-use Rattle.hex.proofs.value.Tie as tie
+use Rattle.hex_digits.proofs.Laws.{value_is}
+use Rattle.hex_digits.proofs.value.Statement.{statement}
+use Rattle.hex_digits.proofs.value.Tie as tie
 
 returns : tie.Need-returns
 unfolding value_of

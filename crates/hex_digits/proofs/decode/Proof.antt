@@ -1,13 +1,13 @@
--- `hex::decode` meets its contract: the loop fills `out` with what the pairs stand for. Assumes nothing.
+-- `hex_digits::decode` meets its contract: the loop fills `out` with what the pairs stand for. Assumes nothing.
 use mathlib.Core.Path.{◌≡◌, refl, ◌∙◌}
 use Prim.Native.Nat.{◌-◌}
 use native.Mathlib.Omega.{arith}
 use lib.ListN.{length}
 use borrow.Author.Rules.{rules}
 use Rattle.slices.proofs.Fill.{Filling, filling_none, filling_more, filling_all}
-use Rattle.hex.proofs.Laws.{pair_at, tab_decoded}
-use Rattle.hex.proofs.decode.Statement.{statement}
-use Rattle.hex.proofs.decode.Tie as tie
+use Rattle.hex_digits.proofs.Laws.{pair_at, tab_decoded}
+use Rattle.hex_digits.proofs.decode.Statement.{statement}
+use Rattle.hex_digits.proofs.decode.Tie as tie
 
 abbrev invariant-loop : tie.invariant-loop
 invariant-loop text out₀ i₀ i_end out i = (i_end ≡ length out₀) × Filling (pair_at text) (length out₀) out₀ i out

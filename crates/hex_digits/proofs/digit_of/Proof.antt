@@ -1,10 +1,10 @@
--- `hex::digit_of` meets its contract: below 10, and from 10 on. Assumes nothing.
+-- `hex_digits::digit_of` meets its contract: below 10, and from 10 on. Assumes nothing.
 use native.Mathlib.Omega.{arith}
 use borrow.Author.Rules.{rules}
 use borrow.Author.Tests.{lt-ltb, le-ltb}
 use Rattle.banquet.specs.Card.{digit_of}
-use Rattle.hex.proofs.digit_of.Statement.{statement}
-use Rattle.hex.proofs.digit_of.Tie as tie
+use Rattle.hex_digits.proofs.digit_of.Statement.{statement}
+use Rattle.hex_digits.proofs.digit_of.Tie as tie
 
 returns : tie.Need-returns
 unfolding digit_of

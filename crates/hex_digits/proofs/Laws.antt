@@ -9,7 +9,7 @@ use Rattle.slices.specs.Tab.{tab_cong}
 use Rattle.slices.specs.Bytes.{Bytes, tail_bytes}
 use Rattle.banquet.specs.declared.Symbol.{Symbol}
 use Rattle.banquet.specs.Card.{symbol_of, value_of, decoded, digit_of, encoded}
-use Rattle.hex.specs.Hex.{half, value_small}
+use Rattle.hex_digits.specs.Hex.{half, value_small}
 
 -- the value of a byte by what it was found to be
 pub value_is : (b : ℕ) {x known : Symbol} {v : ℕ} → x ≡ symbol_of b → x ≡ known → v ≡ value_of known → (v ≡ value_of (symbol_of b)) × (v < 16)
