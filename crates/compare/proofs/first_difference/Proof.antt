@@ -20,11 +20,11 @@ use Rattle.compare.proofs.first_difference.Tie as tie
 abbrev passes : ℕ → ℕ → List ℕ → List ℕ → ℕ → Bool
 passes len hidden a b i = eqb i hidden || same (row len i a) (row len i b)
 
-abbrev invariant-loop : tie.invariant-loop
+abbrev invariant-loop : tie.invariant-loop-k
 invariant-loop n len hidden a b found₀ i at k₀ k_end found k =
     (found ≡ n) × (k ≤ i * len + len) × (same (row len i a) (row len i b) ≡ alike a b (i * len + len) k)
 
-abbrev decreases-loop : tie.decreases-loop
+abbrev decreases-loop : tie.decreases-loop-k
 decreases-loop n len hidden a b found₀ i at k₀ k_end found k = i * len + len - k
 
 abbrev invariant-parties : tie.invariant-parties
@@ -37,10 +37,10 @@ decreases-parties n len hidden a b found₀ i₀ found i = n - i
 -- row i lies in both slices
 module _ (c : tie.In-parties invariant-loop decreases-loop invariant-parties decreases-parties) where
   abbrev end : ℕ
-  end = c.before.parties.i * c.before.before.args.len + c.before.before.args.len
+  end = c.parties.i * c.args.len + c.args.len
 
   fits : end ≤ c.before.before.args.n * c.before.before.args.len
-  fits = row_fits c.before.before.args.len (omega arith)
+  fits = row_fits c.args.len (omega arith)
 
   in_a : end ≤ length c.before.before.args.a.now
   in_a = omega (arith, fits)
@@ -51,64 +51,64 @@ module _ (c : tie.In-parties invariant-loop decreases-loop invariant-parties dec
 parties-holds : tie.Need-parties-init invariant-loop decreases-loop invariant-parties decreases-parties
 parties-holds c = (refl, search rules, rw (sub-zero c.args.n))
 
-loop-holds : tie.Need-loop-init invariant-loop decreases-loop invariant-parties decreases-parties
+loop-holds : tie.Need-loop-k-init invariant-loop decreases-loop invariant-parties decreases-parties
 loop-holds c =
     let turn = c.before in
-    let s = turn.before.before.args in (
-      turn.before.parties.invariant.0,
+    let s = turn.args in (
+      turn.parties.invariant.0,
       omega arith,
-      alike_row s.len turn.before.parties.i s.a.now s.b.now (omega (arith, in_a turn)) (omega (arith, in_b turn)),
+      alike_row s.len turn.parties.i s.a.now s.b.now (omega (arith, in_a turn)) (omega (arith, in_b turn)),
     )
 
-loop-again : tie.Need-loop-preserved invariant-loop decreases-loop invariant-parties decreases-parties
+loop-again : tie.Need-loop-k-preserved invariant-loop decreases-loop invariant-parties decreases-parties
 loop-again c =
-    let l = c.before.before.before.before in
-    let turn = l.before.before in
-    let s = turn.before.before.args in (
-      l.loop.invariant.0,
+    let l = c in
+    let turn = l.before.before.before.before.before.before in
+    let s = turn.args in (
+      l.loop-k.invariant.0,
       omega arith,
-      l.loop.invariant.2 ∙ alike_next s.a.now s.b.now (in_a turn) (in_b turn) (omega arith) c.if2.false,
+      l.loop-k.invariant.2 ∙ alike_next s.a.now s.b.now (in_a turn) (in_b turn) (omega arith) c.if-a-k.false,
     )
 
 parties-again : tie.Need-parties-preserved invariant-loop decreases-loop invariant-parties decreases-parties
 parties-again c =
     let turn = c.before in
-    let s = turn.before.before.args in
-    let i = turn.before.parties.i in
+    let s = turn.args in
+    let i = turn.parties.i in
     let x = same (row s.len i s.a.now) (row s.len i s.b.now) in
-    let onto = turn.before.parties.invariant.2 in
+    let onto = turn.parties.invariant.2 in
     ⊎_elim
     (λ w. (
-      w.3 ∙ w.1.inv.0,
+      w.found-is ∙ w.loop-k.invariant.0,
       omega arith,
       onto ∙ lowest_next _ _ _ (omega arith)
-          (shown_tested i s.hidden x w.0.taken ∙ w.1.inv.2 ∙ alike_end s.a.now s.b.now (in_a turn) (in_b turn) w.2.left),
+          (shown_tested i s.hidden x w.if-i-hidden.true ∙ w.loop-k.invariant.2 ∙ alike_end s.a.now s.b.now (in_a turn) (in_b turn) w.loop-k-test.false),
     ))
     (λ w. (
-      w.1 ∙ turn.before.parties.invariant.0,
+      w.found-is ∙ turn.parties.invariant.0,
       omega arith,
-      onto ∙ lowest_next _ _ _ (omega arith) (hidden_passes i s.hidden x w.0.left),
+      onto ∙ lowest_next _ _ _ (omega arith) (hidden_passes i s.hidden x w.if-i-hidden.false),
     ))
-    c.if1.branch
+    c.if-i-hidden.branch-raw
 
-returns : tie.Need-returns invariant-loop decreases-loop invariant-parties decreases-parties
+returns : tie.Need-returns-after-parties invariant-loop decreases-loop invariant-parties decreases-parties
 returns c =
-    let l = c.before.parties in
-    let n : l.i ≡ c.before.before.args.n = omega arith in
+    let l = c.parties in
+    let n : l.i ≡ c.args.n = omega arith in
     l.invariant.0 ∙ sym (l.invariant.2 ∙ lowest_end _ _ _ (omega arith) ∙ n)
 
-returns-2 : tie.Need-returns-2 invariant-loop decreases-loop invariant-parties decreases-parties
+returns-2 : tie.Need-returns-then-a-k invariant-loop decreases-loop invariant-parties decreases-parties
 returns-2 c =
-    let l = c.before.before.before.before in
-    let turn = l.before.before in
-    let s = turn.before.before.args in
-    let i = turn.before.parties.i in
+    let l = c in
+    let turn = l.before.before.before.before.before.before in
+    let s = turn.args in
+    let i = turn.parties.i in
     let x = same (row s.len i s.a.now) (row s.len i s.b.now) in
     sym
-    (turn.before.parties.invariant.2
+    (turn.parties.invariant.2
     ∙ lowest_here _ _ _ (omega arith)
-    (shown_tested i s.hidden x l.before.if1.true
-    ∙ l.loop.invariant.2 ∙ alike_here s.a.now s.b.now (in_a turn) (in_b turn) (omega arith) c.if2.true))
+    (shown_tested i s.hidden x l.if-i-hidden.true
+    ∙ l.loop-k.invariant.2 ∙ alike_here s.a.now s.b.now (in_a turn) (in_b turn) (omega arith) c.if-a-k.true))
 
 pub first_difference_spec : {M : Type 1} → statement M
 first_difference_spec =

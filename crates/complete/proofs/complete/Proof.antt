@@ -14,45 +14,45 @@ use Rattle.complete.proofs.complete.Tie as tie
 fits : (s : tie.Start) → s.args.hidden * length s.args.whole.now + length s.args.whole.now ≤ length s.args.rows.now
 fits s = omega (arith, row_fits (length s.args.whole.now) s.requires.0, s.requires.1)
 
-mul-a : tie.Need-overflow-mul-a
+mul-a : tie.Need-overflow_mul-a
 mul-a c = omega (arith, fits c.before.before.before)
 
-copy-at-requires : tie.Need-copy-at-requires
+copy-at-requires : tie.Need-copy_at-requires
 copy-at-requires c κs = omega (arith, fits c.before.before.before.before)
 
-module _ (p : tie.After-copy-at) where
+module _ (p : tie.After-copy_at) where
   abbrev start : tie.Start
   start = p.before.before.before.before.before
 
-  long : length p.copy_at.last.0 ≡ start.args.n * length start.args.whole.now
-  long = p.copy_at.kept.0 ∙ start.pre.1
+  long : length p.copy_at.new.dst ≡ start.args.n * length start.args.whole.now
+  long = p.copy_at.auto.dst ∙ start.requires.1
 
-sum-rows-requires : tie.Need-sum-rows-requires
+sum-rows-requires : tie.Need-sum_rows-requires
 sum-rows-requires c κs =
-    let p = c.before.before.before.before in
+    let p = c.before.before.before in
     (omega (arith, (start p).requires.0), long p ∙ ap (λ m. (start p).args.n * m) (sym (start p).requires.2))
 
-copy-at-requires-2 : tie.Need-copy-at-requires-2
+copy-at-requires-2 : tie.Need-copy_at-requires-2
 copy-at-requires-2 c κs =
-    let q = c.before.before.before.before in
-    let p = q.before.before.before.before.before in
-    let same : length q.sum_rows.new.1.1.0 ≡ length (start p).args.whole.now = q.sum_rows.auto.1.1.0 ∙ (start p).requires.2 in
+    let q = c in
+    let p = q.before.before.before.before.before.before.before in
+    let same : length q.sum_rows.new.out ≡ length (start p).args.whole.now = q.sum_rows.auto.out ∙ (start p).requires.2 in
     omega (arith, fits (start p), long p, (start p).requires.1, same)
 
 returns : tie.Need-returns
 returns c =
-    let z = c.before.before in
-    let q = z.before.before.before.before.before in
-    let p = q.before.before.before.before.before in
+    let z = c in
+    let q = z in
+    let p = q.before.before.before.before.before.before.before.before.before.before in
     let s = start p in
     let a = s.args in
     let w = length a.whole.now in
     let n = a.n in
-    let rest = rest_summed n w a.hidden a.rows.now a.whole.now s.pre.1 refl s.pre.0 p.copy_at.ensures in
-    let summed = q.sum_rows.ensures ∙ ap (λ m. sum_xor n (λ i. row m i p.copy_at.new.0)) s.pre.2 ∙ rest in (
-      completed n w a.hidden a.rows.now a.whole.now s.pre.1 refl s.pre.0 p.copy_at.ensures summed
-          (q.sum_rows.auto.1.1.0 ∙ s.pre.2) z.copy-at2.ensures,
-      summed ∙ hidden_left n w a.hidden a.rows.now a.whole.now s.pre.1 refl s.pre.0,
+    let rest = rest_summed n w a.hidden a.rows.now a.whole.now s.requires.1 refl s.requires.0 p.copy_at.ensures in
+    let summed = q.sum_rows.ensures ∙ ap (λ m. sum_xor n (λ i. row m i p.copy_at.new.dst)) s.requires.2 ∙ rest in (
+      completed n w a.hidden a.rows.now a.whole.now s.requires.1 refl s.requires.0 p.copy_at.ensures summed
+          (q.sum_rows.auto.out ∙ s.requires.2) z.copy_at-2.ensures,
+      summed ∙ hidden_left n w a.hidden a.rows.now a.whole.now s.requires.1 refl s.requires.0,
     )
 
 pub complete_spec : {M : Type 1} → statement M
