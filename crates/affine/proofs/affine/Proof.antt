@@ -11,25 +11,25 @@ use Rattle.slices.specs.Tab.{tab_map}
 use Rattle.affine.proofs.affine.Statement.{statement}
 use Rattle.affine.proofs.affine.Tie as tie
 
-abbrev invariant-loop : tie.invariant-loop
+abbrev invariant-loop : tie.invariant-loop-i
 invariant-loop s₀ c i₀ i_end s i = Filling (λ k. bit_xor (matrix (get_or s₀ k 0)) c) (length s₀) s₀ i s
 
-abbrev decreases-loop : tie.decreases-loop
+abbrev decreases-loop : tie.decreases-loop-i
 decreases-loop s₀ c i₀ i_end s i = length s₀ - i
 
-loop-holds : tie.Need-loop-init invariant-loop decreases-loop
+loop-holds : tie.Need-loop-i-init invariant-loop decreases-loop
 loop-holds c = filling_none refl
 
-loop-again : tie.Need-loop-preserved invariant-loop decreases-loop
+loop-again : tie.Need-loop-i-preserved invariant-loop decreases-loop
 loop-again c =
     let at = c.before.before.before in
-    filling_more at.loop.invariant (omega arith)
-    (c.affine-byte.ensures ∙ ap (λ (b : ℕ). bit_xor (matrix b) at.before.before.args.c) (filling_at at.loop.invariant (omega arith)))
+    filling_more at.loop-i.invariant (omega arith)
+    (c.affine_byte.ensures ∙ ap (λ (b : ℕ). bit_xor (matrix b) at.before.before.args.c) (filling_at at.loop-i.invariant (omega arith)))
 
 returns : tie.Need-returns invariant-loop decreases-loop
 returns c =
     let args = c.before.before.before.args in
-    filling_all c.before.loop.invariant (omega arith) ∙ tab_map (λ b. bit_xor (matrix b) args.c) args.s.now
+    filling_all c.before.loop-i.invariant (omega arith) ∙ tab_map (λ b. bit_xor (matrix b) args.c) args.s.now
 
 pub affine_spec : {M : Type 1} → statement M
 affine_spec =

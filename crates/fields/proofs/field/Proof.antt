@@ -7,22 +7,22 @@ use Rattle.fields.specs.Offsets.{field_order, field_fits, field_between}
 use Rattle.fields.proofs.field.Statement.{statement}
 use Rattle.fields.proofs.field.Tie as tie
 
-module _ (c : tie.After-offset2) where
+module _ (c : tie.After-offset-e) where
   abbrev start : tie.Start
   start = c.before.before.before.before
 
-  order : c.before.offset.result ≤ c.offset2.result
-  order = field_order start.args.sizes.now start.args.k c.before.offset.ensures c.offset2.ensures
+  order : c.before.offset-a.result ≤ c.offset-e.result
+  order = field_order start.args.sizes.now start.args.k c.before.offset-a.ensures c.offset-e.ensures
 
-  fits : c.offset2.result ≤ length start.args.s.now
+  fits : c.offset-e.result ≤ length start.args.s.now
   fits =
-      omega (arith, field_fits start.args.sizes.now start.args.k c.before.offset.ensures c.offset2.ensures, start.pre.1)
+      omega (arith, field_fits start.args.sizes.now start.args.k c.before.offset-a.ensures c.offset-e.ensures, start.requires.1)
 
 returns : tie.Need-returns
 returns c =
     let p = c.before in
     let s = start p in
-    field_between s.args.sizes.now s.args.k p.before.offset.ensures p.offset2.ensures s.args.s.now
+    field_between s.args.sizes.now s.args.k p.before.offset-a.ensures p.offset-e.ensures s.args.s.now
 
 pub field_spec : {M : Type 1} → statement M
 field_spec =

@@ -10,29 +10,29 @@ use Rattle.fields.specs.Offsets.{total_take_suc, total_take_fits}
 use Rattle.fields.proofs.offset.Statement.{statement}
 use Rattle.fields.proofs.offset.Tie as tie
 
-abbrev invariant-loop : tie.invariant-loop
+abbrev invariant-loop : tie.invariant-loop-i
 invariant-loop sizes k at₀ i₀ at i = (i ≤ k) × (at ≡ total (take i sizes))
 
-abbrev decreases-loop : tie.decreases-loop
+abbrev decreases-loop : tie.decreases-loop-i
 decreases-loop sizes k at₀ i₀ at i = k - i
 
 -- a size more is no more than all
-add_at : tie.Need-overflow-add-at invariant-loop decreases-loop
+add_at : tie.Need-overflow_add-at invariant-loop decreases-loop
 add_at c =
     let l = c.before.before in
-    omega (arith, l.loop.invariant.1, total_take_fits l.before.args.sizes.now l.loop.i)
+    omega (arith, l.loop-i.invariant.1, total_take_fits l.before.args.sizes.now l.loop-i.i)
 
-loop-again : tie.Need-loop-preserved invariant-loop decreases-loop
+loop-again : tie.Need-loop-i-preserved invariant-loop decreases-loop
 loop-again c =
     let l = c.before.before in
     let s = l.before.args.sizes.now in
-    (omega arith, rw (add-one, l.loop.invariant.1) (sym (total_take_suc s l.loop.i)))
+    (omega arith, rw (add-one, l.loop-i.invariant.1) (sym (total_take_suc s l.loop-i.i)))
 
 returns : tie.Need-returns invariant-loop decreases-loop
 returns c =
     let l = c.before in
-    let e : l.loop.i ≡ l.before.args.k = omega arith in
-    l.loop.invariant.1 ∙ ap (λ (n : ℕ). total (take n l.before.args.sizes.now)) e
+    let e : l.loop-i.i ≡ l.before.args.k = omega arith in
+    l.loop-i.invariant.1 ∙ ap (λ (n : ℕ). total (take n l.before.args.sizes.now)) e
 
 pub offset_spec : {M : Type 1} → statement M
 offset_spec =

@@ -10,29 +10,29 @@ use Rattle.aes.specs.Zero.{first_zero_here, first_zero_later, first_zero_end}
 use Rattle.sbox_inputs.proofs.first_zero.Statement.{statement}
 use Rattle.sbox_inputs.proofs.first_zero.Tie as tie
 
-abbrev invariant-loop : tie.invariant-loop
+abbrev invariant-loop : tie.invariant-loop-i
 invariant-loop s i₀ i_end i = (i ≤ length s) × (i + first_zero (drop i s) ≡ first_zero s)
 
-abbrev decreases-loop : tie.decreases-loop
+abbrev decreases-loop : tie.decreases-loop-i
 decreases-loop s i₀ i_end i = length s - i
 
-loop-holds : tie.Need-loop-init invariant-loop decreases-loop
+loop-holds : tie.Need-loop-i-init invariant-loop decreases-loop
 loop-holds c = (omega arith, omega arith)
 
-returns : tie.Need-returns invariant-loop decreases-loop
+returns : tie.Need-returns-then-s-i-eq0 invariant-loop decreases-loop
 returns c =
     let at = c.before.before.before in
-    omega (arith, first_zero_here at.before.args.s.now at.loop.i (omega arith) c.if1.true)
+    omega (arith, first_zero_here at.before.args.s.now at.loop-i.i (omega arith) c.if-s-i-eq0.true)
 
-loop-again : tie.Need-loop-preserved invariant-loop decreases-loop
+loop-again : tie.Need-loop-i-preserved invariant-loop decreases-loop
 loop-again c =
     let at = c.before.before.before in
-    (omega arith, rw add-one (omega (arith, first_zero_later at.before.args.s.now at.loop.i (omega arith) c.if1.false)))
+    (omega arith, rw add-one (omega (arith, first_zero_later at.before.args.s.now at.loop-i.i (omega arith) c.if-s-i-eq0.false)))
 
-returns-2 : tie.Need-returns-2 invariant-loop decreases-loop
+returns-2 : tie.Need-returns invariant-loop decreases-loop
 returns-2 c =
     let at = c.before in
-    omega (arith, first_zero_end at.before.args.s.now at.loop.i (omega arith))
+    omega (arith, first_zero_end at.before.args.s.now at.loop-i.i (omega arith))
 
 pub first_zero_spec : {M : Type 1} → statement M
 first_zero_spec =

@@ -10,22 +10,22 @@ use Rattle.slices.specs.Tab.{tab_map}
 use Rattle.sbox_inputs.proofs.invert.Statement.{statement}
 use Rattle.sbox_inputs.proofs.invert.Tie as tie
 
-abbrev invariant-loop : tie.invariant-loop
+abbrev invariant-loop : tie.invariant-loop-i
 invariant-loop s₀ i₀ i_end s i = Filling (λ k. inverse8 (get_or s₀ k 0)) (length s₀) s₀ i s
 
-abbrev decreases-loop : tie.decreases-loop
+abbrev decreases-loop : tie.decreases-loop-i
 decreases-loop s₀ i₀ i_end s i = length s₀ - i
 
-loop-holds : tie.Need-loop-init invariant-loop decreases-loop
+loop-holds : tie.Need-loop-i-init invariant-loop decreases-loop
 loop-holds c = filling_none refl
 
-loop-again : tie.Need-loop-preserved invariant-loop decreases-loop
+loop-again : tie.Need-loop-i-preserved invariant-loop decreases-loop
 loop-again c =
     let at = c.before.before.before in
-    filling_more at.loop.invariant (omega arith) (c.inverse.ensures ∙ ap inverse8 (filling_at at.loop.invariant (omega arith)))
+    filling_more at.loop-i.invariant (omega arith) (c.inverse.ensures ∙ ap inverse8 (filling_at at.loop-i.invariant (omega arith)))
 
 returns : tie.Need-returns invariant-loop decreases-loop
-returns c = filling_all c.before.loop.invariant (omega arith) ∙ tab_map inverse8 c.before.before.before.args.s.now
+returns c = filling_all c.before.loop-i.invariant (omega arith) ∙ tab_map inverse8 c.before.before.before.args.s.now
 
 pub invert_spec : {M : Type 1} → statement M
 invert_spec =
