@@ -123,8 +123,9 @@ next_word_linear hk ht (suc j) = add_linear 4 (word_linear hk (suc j)) (next_wor
 round_key_linear : {z : Share → List ℕ} → Linear z → (n : ℕ) → Linear (λ s. round_key_share s.one s.key (z s) n)
 unfolding round_key_share
 round_key_linear hz zero = block_linear key_linear 0
-round_key_linear hz (suc n) =
-    stacked 4 4 (λ s. length_next_word _ _)
+round_key_linear {z} hz (suc n) =
+    stacked 4 4
+    (λ s. length_next_word (round_key_share s.one s.key (z s) n) (add 4 (word (z s) n) (public s.one 4 (rcon n))))
     (next_word_linear (round_key_linear hz n) (add_linear 4 (word_linear hz n) (public_linear 4 (rcon n))))
 
 expanded_linear : Linear expanded
