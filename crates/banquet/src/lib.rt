@@ -7,7 +7,7 @@ pub const MESSAGE_LIMIT: usize = 32768;
 pub const WORK_LENGTH: usize = 65536;
 
 // The answer of a call: accepted, or the refusal that applies first. specs/Answer.antt has the number and the place of each.
-#[derive(Drop)]
+#[derive(Clone, Copy)]
 pub enum Answer {
     Accepted,
     KeyLength,
@@ -31,14 +31,14 @@ pub enum Answer {
 }
 
 // What the papers call an answer's number and place; 0 and 0 for accepted.
-#[derive(Drop)]
+#[derive(Clone, Copy)]
 pub struct Verdict {
     pub number: u8,
     pub place: u8,
 }
 
 // A parameter set; specs/Shape.antt says what each number is, and has the sizes that follow from them.
-#[derive(Drop)]
+#[derive(Clone, Copy)]
 pub struct Shape {
     pub parties: usize,
     pub depth: usize,
@@ -52,7 +52,7 @@ pub struct Shape {
 }
 
 // What a byte of a text in hexadecimal is: a digit with its value, the end of a line, or anything else.
-#[derive(Drop)]
+#[derive(Clone, Copy)]
 pub enum Symbol {
     Value(u8),
     LineEnd,

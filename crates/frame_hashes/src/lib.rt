@@ -17,7 +17,7 @@ use banquet::Shape;
 use stream::Sponge;
 
 // Two of the hashes, absorbed execution by execution.
-#[derive(Drop)]
+#[derive(Clone, Copy)]
 pub struct Hashes {
     pub first: Sponge,
     pub third: Sponge,

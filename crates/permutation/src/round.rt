@@ -6,11 +6,11 @@ ghost use Rattle.keccak.specs.Keccak.{rotl, effect, round};
 ghost use Rattle.permutation.specs.State.{plane, state, rho_plane, chi_plane, mask, chi_mask, masked};
 
 // Five lanes with one y: lane A[x, y] of FIPS 202 is the field of number x.
-#[derive(Drop)]
+#[derive(Clone, Copy)]
 pub struct Plane(pub u64, pub u64, pub u64, pub u64, pub u64);
 
 // The state: its five planes, by y.
-#[derive(Drop)]
+#[derive(Clone, Copy)]
 pub struct State(pub Plane, pub Plane, pub Plane, pub Plane, pub Plane);
 
 // All bits of a lane: to add them is to complement it.

@@ -5,7 +5,7 @@ ghost use Rattle.banquet.specs.Sets.{base_scheme};
 ghost use Rattle.print_card.specs.Line.{as_line};
 
 // A line with its end, and zeros behind it; `length` is its own.
-#[derive(Drop)]
+#[derive(Clone, Copy)]
 pub struct Line {
     pub bytes: [u8; 30],
     pub length: usize,

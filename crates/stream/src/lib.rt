@@ -4,7 +4,7 @@ ghost use Rattle.shake.specs.Padding.{rate};
 ghost use Rattle.stream.specs.Stream.{empty};
 
 // The 25 lanes, and the byte at which the next one goes in or comes out.
-#[derive(Drop)]
+#[derive(Clone, Copy)]
 pub struct Sponge {
     pub lanes: [u64; 25],
     pub at: usize,

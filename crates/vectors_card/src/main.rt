@@ -152,7 +152,7 @@ fn answer(kind: u8, text: &[u8]) {
 }
 
 // How many bytes the text has as b had it, and as it is now.
-#[derive(Drop)]
+#[derive(Clone, Copy)]
 struct Counts {
     whole: usize,
     now: usize,

@@ -46,27 +46,27 @@ filled : {f : ℕ → ℕ} {m : ℕ} {d l : List ℕ} {i j : ℕ} → Filling f 
 filled {f} {m} {d} {l} {i} {j} w h =
     rw w.is (get_or-append (tab f i) (drop i d) 0 j (rw (length_tab f i) h) ∙ get_d_tab f i j 0 h)
 
-abbrev invariant-loop : tie.invariant-loop
+abbrev invariant-loop : tie.invariant-loop-i
 invariant-loop k temp out₀ i₀ out i = Filling (byte k temp) 16 out₀ i out
 
-abbrev decreases-loop : tie.decreases-loop
+abbrev decreases-loop : tie.decreases-loop-i
 decreases-loop k temp out₀ i₀ out i = 16 - i
 
-loop-holds : tie.Need-loop-init invariant-loop decreases-loop
+loop-holds : tie.Need-loop-i-init invariant-loop decreases-loop
 loop-holds c = filling_none refl
 
-loop-again : tie.Need-loop-preserved invariant-loop decreases-loop
+loop-again : tie.Need-loop-i-preserved invariant-loop decreases-loop
 loop-again c =
-    let at = c.before.before.before in
-    let k = at.before.args.t1 in
-    let temp = at.before.args.t2 in
-    let i = at.loop.i in
-    filling_more at.loop.invariant (omega arith)
-    (⊎_elim (λ w. ap (bit_xor (get_or k i 0)) w.1 ∙ first_word k temp i w.0.taken)
-    (λ w. ap (bit_xor (get_or k i 0)) (w.1 ∙ filled at.loop.invariant (omega arith)) ∙ next_word_lem k temp i (omega arith)) c.before.if1.branch)
+    let at = c in
+    let k = at.args.t1 in
+    let temp = at.args.t2 in
+    let i = at.loop-i.i in
+    filling_more at.loop-i.invariant (omega arith)
+    (⊎_elim (λ w. ap (bit_xor (get_or k i 0)) w.before-is ∙ first_word k temp i w.if-i-lt4.true)
+    (λ w. ap (bit_xor (get_or k i 0)) (w.before-is ∙ filled at.loop-i.invariant (omega arith)) ∙ next_word_lem k temp i (omega arith)) c.if-i-lt4.branch-raw)
 
 returns : tie.Need-returns invariant-loop decreases-loop
-returns c = filling_all c.before.loop.invariant (omega arith)
+returns c = filling_all c.loop-i.invariant (omega arith)
 
 pub next_key_spec : {M : Type 1} → statement M
 next_key_spec =

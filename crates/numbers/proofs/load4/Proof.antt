@@ -8,7 +8,7 @@ use Rattle.numbers.proofs.load4.Tie as tie
 
 returns : tie.Need-returns
 returns c =
-    let start = c.before.before.before.before.before.before in
+    let start = c in
     c.join4.ensures ∙ ap number (four_bytes start.args.s.now start.args.at start.requires)
 
 pub load4_spec : {M : Type 1} → statement M

@@ -8,8 +8,8 @@ use Rattle.numbers.proofs.load8.Tie as tie
 
 returns : tie.Need-returns
 returns c =
-    let start = c.before.before.before in
-    ap₂ (λ x y. x + 2 ^ 32 * y) c.before.load4.ensures c.load42.ensures
+    let start = c in
+    ap₂ (λ x y. x + 2 ^ 32 * y) c.load4.ensures c.load4-2.ensures
     ∙ eight_bytes start.args.s.now start.args.at start.requires
 
 pub load8_spec : {M : Type 1} → statement M
