@@ -10,24 +10,24 @@ use Rattle.slices.proofs.Rows.{row_fits}
 use Rattle.elements.proofs.load.Statement.{statement}
 use Rattle.elements.proofs.load.Tie as tie
 
-abbrev invariant-loop : tie.invariant-loop
+abbrev invariant-loop : tie.invariant-loop-k
 invariant-loop w s out₀ k₀ k_end out k = Filling (λ k. number_at w k s) (length out₀) out₀ k out
 
-abbrev decreases-loop : tie.decreases-loop
+abbrev decreases-loop : tie.decreases-loop-k
 decreases-loop w s out₀ k₀ k_end out k = length out₀ - k
 
 -- number k lies in the slice
-fits : (c : tie.In-loop invariant-loop decreases-loop)
-    → let a = c.before.before.before.before.args in c.before.loop.k * a.w + a.w ≤ length a.s.now
+fits : (c : tie.In-loop-k invariant-loop decreases-loop)
+    → let a = c.before.before.before.before.args in c.before.loop-k.k * a.w + a.w ≤ length a.s.now
 fits c =
-    let a = c.before.before.before.before.args in
-    omega (arith, row_fits a.w {i = c.before.loop.k} {n = length a.out.now} (omega arith))
+    let a = c.args in
+    omega (arith, row_fits a.w {i = c.loop-k.k} {n = length a.out.now} (omega arith))
 
-loop-again : tie.Need-loop-preserved invariant-loop decreases-loop
-loop-again c = filling_more c.before.before.loop.invariant (omega arith) c.load.ensures
+loop-again : tie.Need-loop-k-preserved invariant-loop decreases-loop
+loop-again c = filling_more c.loop-k.invariant (omega arith) c.load.ensures
 
 returns : tie.Need-returns invariant-loop decreases-loop
-returns c = filling_all c.before.loop.invariant (omega arith)
+returns c = filling_all c.loop-k.invariant (omega arith)
 
 pub load_spec : {M : Type 1} → statement M
 load_spec =
