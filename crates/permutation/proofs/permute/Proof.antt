@@ -20,40 +20,40 @@ two_more i a {b} e h =
     let n : 2 * (i + 1) ≡ suc (suc (2 * i)) = omega arith in
     rw (n, ← h) (e ∙ ap (λ k. round (get_or round_constants k 0) (round (get_or round_constants (2 * i) 0) b)) (add-one (2 * i)))
 
-abbrev invariant-loop : tie.invariant-loop
+abbrev invariant-loop : tie.invariant-loop-i
 invariant-loop a table s₀ i₀ s i = (i ≤ 12) × (masked (state s) ≡ rounds (2 * i) (masked (state s₀)))
 
-abbrev decreases-loop : tie.decreases-loop
+abbrev decreases-loop : tie.decreases-loop-i
 decreases-loop a table s₀ i₀ s i = 12 - i
 
-loop-holds : tie.Need-loop-init invariant-loop decreases-loop
+loop-holds : tie.Need-loop-i-init invariant-loop decreases-loop
 unfolding rounds
 loop-holds c = (omega arith, refl)
 
-loop-again : tie.Need-loop-preserved invariant-loop decreases-loop
+loop-again : tie.Need-loop-i-preserved invariant-loop decreases-loop
 loop-again c =
-    let h = c.before.before.loop in
-    (search rules, two_more h.i _ c.two-rounds.ensures h.invariant.1)
+    let h = c.loop-i in
+    (search rules, two_more h.i _ c.two_rounds-t.ensures h.invariant.1)
 
 returns : tie.Need-returns invariant-loop decreases-loop
 unfolding keccak_f plane state
 returns c =
-    let off = c.before in
-    let h = off.before.before in
-    let on = h.before in
-    let p4 = on.before in
-    let p3 = p4.before in
-    let p2 = p3.before in
-    let p1 = p2.before in
-    let p0 = p1.before in
-    let start = p0.before.before in
-    let last : 2 * h.loop.i ≡ 24 = omega (arith, h.loop.invariant, off.before.loop-test) in
-    off.with-mask2.ensures ∙ h.loop.invariant.1
+    let off = c in
+    let h = off in
+    let on = h in
+    let p4 = on in
+    let p3 = p4 in
+    let p2 = p3 in
+    let p1 = p2 in
+    let p0 = p1 in
+    let start = p0 in
+    let last : 2 * h.loop-i.i ≡ 24 = omega (arith, h.loop-i.invariant, off.loop-i-test) in
+    off.with_mask-t.ensures ∙ h.loop-i.invariant.1
     ∙ ap₂
     rounds
     last
-    (ap masked on.with-mask.ensures ∙ masked_twice (state _) refl
-    ∙ joined_cong p0.cut.ensures p1.cut2.ensures p2.cut3.ensures p3.cut4.ensures p4.cut5.ensures)
+    (ap masked on.with_mask-s.ensures ∙ masked_twice (state _) refl
+    ∙ joined_cong p0.cut.ensures p1.cut-2.ensures p2.cut-3.ensures p3.cut-4.ensures p4.cut-5.ensures)
     ∙ rounds_of start.args.a.now 23
 
 pub permute_spec : {M : Type 1} → statement M

@@ -24,36 +24,36 @@ after_second : (c d rc : ℕ) (a b : List ℕ) (k : ℕ) → k ≡ 1 → rc ≡ 
 unfolding after
 after_second c d rc a b k z e h = rw (z, e) (ap (round d) (h ∙ ap (after c d a) z))
 
-abbrev invariant-loop : tie.invariant-loop
+abbrev invariant-loop : tie.invariant-loop-k
 invariant-loop rc0 rc1 s₀ k₀ s k = (k ≤ 2) × (masked (state s) ≡ after rc0 rc1 (masked (state s₀)) k)
 
-abbrev decreases-loop : tie.decreases-loop
+abbrev decreases-loop : tie.decreases-loop-k
 decreases-loop rc0 rc1 s₀ k₀ s k = 2 - k
 
-loop-holds : tie.Need-loop-init invariant-loop decreases-loop
+loop-holds : tie.Need-loop-k-init invariant-loop decreases-loop
 unfolding after
 loop-holds c = (omega arith, refl)
 
-loop-again : tie.Need-loop-preserved invariant-loop decreases-loop
+loop-again : tie.Need-loop-k-preserved invariant-loop decreases-loop
 loop-again c =
-    let j = c.before in
-    let h = j.before.before.loop in
-    let a = j.before.before.before.args in
+    let j = c in
+    let h = j.loop-k in
+    let a = j.args in
     let st = masked (state a.a) in
     let now = masked (state h.s) in (
-      omega (arith, h.invariant.0, j.before.loop-test.true),
-      c.step-round.ensures
+      omega (arith, h.invariant.0, j.loop-k-test.true),
+      c.step_round-t.ensures
           ∙ ⊎_elim
-          (λ w. after_first a.rc0 a.rc1 j.if1.rc st now h.k w.0.taken w.1 h.invariant.1)
-          (λ w. after_second a.rc0 a.rc1 j.if1.rc st now h.k (omega (arith, w.0.left, j.before.loop-test.true)) w.1 h.invariant.1)
-          j.if1.branch,
+          (λ w. after_first a.rc0 a.rc1 j.if-k-eq0.rc st now h.k w.if-k-eq0.true w.rc-is h.invariant.1)
+          (λ w. after_second a.rc0 a.rc1 j.if-k-eq0.rc st now h.k (omega (arith, w.if-k-eq0.false, j.loop-k-test.true)) w.rc-is h.invariant.1)
+          j.if-k-eq0.branch-raw,
     )
 
 returns : tie.Need-returns invariant-loop decreases-loop
 unfolding after
 returns c =
-    let h = c.before.loop in
-    let a = c.before.before.args in
+    let h = c.loop-k in
+    let a = c.args in
     let last : h.k ≡ 2 = omega arith in
     h.invariant.1 ∙ ap (after a.rc0 a.rc1 (masked (state a.a))) last
 

@@ -26,20 +26,20 @@ around_summed s = refl
 returns : tie.Need-returns
 unfolding plane
 returns c =
-    let r = c.before in
-    let c4 = r.before in
-    let c3 = c4.before in
-    let c2 = c3.before in
-    let c1 = c2.before in
-    let s = c1.before.args.s in
-    c.add5.ensures ∙ ap (zip_xor _) r.rotate.ensures
+    let r = c in
+    let c4 = r in
+    let c3 = c4 in
+    let c2 = c3 in
+    let c1 = c2 in
+    let s = c1.args.s in
+    c.add-4.ensures ∙ ap (zip_xor _) r.rotate.ensures
     ∙ ap
     around
-    (c4.add4.ensures
+    (c4.add-c.ensures
     ∙ ap
     (λ p. zip_xor p (plane s.4))
-    (c3.add3.ensures
-    ∙ ap (λ p. zip_xor p (plane s.3)) (c2.add2.ensures ∙ ap (λ p. zip_xor p (plane s.2)) c1.add.ensures)))
+    (c3.add-3.ensures
+    ∙ ap (λ p. zip_xor p (plane s.3)) (c2.add-2.ensures ∙ ap (λ p. zip_xor p (plane s.2)) c1.add.ensures)))
     ∙ around_summed s
 
 pub effects_spec : {M : Type 1} → statement M

@@ -7,11 +7,11 @@ use Rattle.permutation.proofs.round.rotate.Tie as tie
 returns : tie.Need-returns
 unfolding plane rho_plane
 returns c =
-    let d = c.before in
-    let e = d.before in
-    let f = e.before in
-    let g = f.before in
-    rw (c.rotated5.ensures, d.rotated4.ensures, e.rotated3.ensures, f.rotated2.ensures, g.rotated.ensures) refl
+    let d = c in
+    let e = d in
+    let f = e in
+    let g = f in
+    rw (c.rotated-5.ensures, d.rotated-4.ensures, e.rotated-3.ensures, f.rotated-2.ensures, g.rotated.ensures) refl
 
 pub rotate_spec : {M : Type 1} → statement M
 rotate_spec = tie.close (tie.spec (λ c κs. tt) (λ c κs. tt) (λ c κs. tt) (λ c κs. tt) (λ c κs. tt) returns)

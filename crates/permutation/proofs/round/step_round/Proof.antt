@@ -11,33 +11,33 @@ use Rattle.permutation.proofs.round.step_round.Tie as tie
 
 each_lane : (c : tie.Start) → Each 64 (state c.args.s)
 unfolding state plane
-each_lane c = omega (arith, c.well-formed.0)
+each_lane c = omega (arith, c.well_formed.0)
 
 returns : tie.Need-returns
 unfolding round plane state masked zip_xor iota offsets
 returns c =
-    let m0 = c.before in
-    let m4 = m0.before in
-    let m3 = m4.before in
-    let m1 = m3.before in
-    let m2 = m1.before in
-    let t2 = m2.before in
-    let t4 = t2.before in
-    let t3 = t4.before in
-    let t1 = t3.before in
-    let t0 = t1.before in
-    let d = t0.before in
-    let start = d.before in
+    let m0 = c in
+    let m4 = m0 in
+    let m3 = m4 in
+    let m1 = m3 in
+    let m2 = m1 in
+    let t2 = m2 in
+    let t4 = t2 in
+    let t3 = t4 in
+    let t1 = t3 in
+    let t0 = t1 in
+    let d = t0 in
+    let start = d.before.before.before.before.before.before.before.before.before.before.before.before.before.before.before.before.before in
     let args = start.args in
-    iota_masked args.rc m0.chi0.result m1.chi1.result m2.chi2.result m3.chi3.result m4.chi4.result
+    iota_masked args.rc m0.chi0-c0.result m1.chi1-c1.result m2.chi2-c2.result m3.chi3-c3.result m4.chi4-c4.result
     ∙ ap
     (iota args.rc)
-    (joined_cong m0.chi0.ensures m1.chi1.ensures m2.chi2.ensures m3.chi3.ensures m4.chi4.ensures
-    ∙ pi_chi t0.theta-rho.result t1.theta-rho2.result t2.theta-rho5.result t3.theta-rho3.result t4.theta-rho4.result
+    (joined_cong m0.chi0-c0.ensures m1.chi1-c1.ensures m2.chi2-c2.ensures m3.chi3-c3.ensures m4.chi4-c4.ensures
+    ∙ pi_chi t0.theta_rho-b0.result t1.theta_rho-b1.result t2.theta_rho-b2.result t3.theta_rho-b3.result t4.theta_rho-b4.result
     ∙ ap
     (λ b. chi (zip_xor (pi b) chi_mask))
-    (joined_cong t0.theta-rho.ensures t1.theta-rho2.ensures t2.theta-rho5.ensures t3.theta-rho3.ensures t4.theta-rho4.ensures
-    ∙ theta_rho args.s (plane d.effects.result) d.effects.ensures)
+    (joined_cong t0.theta_rho-b0.ensures t1.theta_rho-b1.ensures t2.theta_rho-b2.ensures t3.theta_rho-b3.ensures t4.theta_rho-b4.ensures
+    ∙ theta_rho args.s (plane d.effects-d.result) d.effects-d.ensures)
     ∙ ap chi (sym (through (state args.s) (each_below 64 (state args.s) (each_lane start)))))
 
 pub step_round_spec : {M : Type 1} → statement M

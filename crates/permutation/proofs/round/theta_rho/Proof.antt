@@ -5,7 +5,7 @@ use Rattle.permutation.proofs.round.theta_rho.Statement.{statement}
 use Rattle.permutation.proofs.round.theta_rho.Tie as tie
 
 returns : tie.Need-returns
-returns c = c.rotate.ensures ∙ ap (rho_plane _) c.before.add.ensures
+returns c = c.rotate.ensures ∙ ap (rho_plane _) c.add.ensures
 
 pub theta_rho_spec : {M : Type 1} → statement M
 theta_rho_spec = tie.close (tie.spec (λ c κs. tt) (λ c κs. tt) returns)

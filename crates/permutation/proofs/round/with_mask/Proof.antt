@@ -9,11 +9,11 @@ returns : tie.Need-returns
 unfolding plane state masked zip_xor
 returns c =
     let p4 = c in
-    let p3 = p4.before in
-    let p2 = p3.before in
-    let p1 = p2.before in
-    let p0 = p1.before in
-    joined_cong p0.add.ensures p1.add2.ensures p2.add3.ensures p3.add4.ensures p4.add5.ensures
+    let p3 = p4 in
+    let p2 = p3 in
+    let p1 = p2 in
+    let p0 = p1 in
+    joined_cong p0.add.ensures p1.add-2.ensures p2.add-3.ensures p3.add-4.ensures p4.add-5.ensures
 
 pub with_mask_spec : {M : Type 1} → statement M
 with_mask_spec = tie.close (tie.spec (λ c κs. tt) (λ c κs. tt) (λ c κs. tt) (λ c κs. tt) (λ c κs. tt) returns)
