@@ -12,29 +12,29 @@ use Rattle.lagrange.specs.Values.{upto}
 use Rattle.lagrange.proofs.prefixes.Statement.{statement}
 use Rattle.lagrange.proofs.prefixes.Tie as tie
 
-abbrev invariant-loop : tie.invariant-loop
+abbrev invariant-loop : tie.invariant-loop-k
 invariant-loop bits low x out₀ product₀ k₀ k_end out product k = Filling (upto bits low x) (length out₀) out₀ k out × (product ≡ upto bits low x k)
 
-abbrev decreases-loop : tie.decreases-loop
+abbrev decreases-loop : tie.decreases-loop-k
 decreases-loop bits low x out₀ product₀ k₀ k_end out product k = length out₀ - k
 
-loop-holds : tie.Need-loop-init invariant-loop decreases-loop
+loop-holds : tie.Need-loop-k-init invariant-loop decreases-loop
 unfolding upto
 loop-holds c = (filling_none refl, refl)
 
-loop-again : tie.Need-loop-preserved invariant-loop decreases-loop
+loop-again : tie.Need-loop-k-preserved invariant-loop decreases-loop
 unfolding upto
 loop-again c =
-    let l = c.before.before in
-    let a = l.before.before.args in (
-      filling_more l.loop.invariant.0 (omega arith) l.loop.invariant.1,
-      c.mul.ensures
-          ∙ ap (λ (p : ℕ). product a.bits a.low p (bit_xor a.x l.loop.k)) l.loop.invariant.1
-          ∙ ap (upto a.bits a.low a.x) (sym (add-one l.loop.k)),
+    let l = c in
+    let a = l.args in (
+      filling_more l.loop-k.invariant.0 (omega arith) l.loop-k.invariant.1,
+      c.mul-product.ensures
+          ∙ ap (λ (p : ℕ). product a.bits a.low p (bit_xor a.x l.loop-k.k)) l.loop-k.invariant.1
+          ∙ ap (upto a.bits a.low a.x) (sym (add-one l.loop-k.k)),
     )
 
 returns : tie.Need-returns invariant-loop decreases-loop
-returns c = filling_all c.before.loop.invariant.0 (omega arith)
+returns c = filling_all c.loop-k.invariant.0 (omega arith)
 
 pub prefixes_spec : {M : Type 1} → statement M
 prefixes_spec =
