@@ -66,10 +66,10 @@ def tables():
     yield 'inverses/src/lib.rt', 'INVERSE', const('INVERSE'), [byte.inverse(a) for a in range(256)]
     yield 'field/specs/Byte.antt', 'table8', listed('table8'), undo(byte)
     for f, n in ((f32, 32), (f48, 48)):
-        spec, roots, powers = 'field/specs/Wide%d.antt' % n, f.roots(), f.powers()
+        spec, roots, powers = '%s/specs/Wide%d.antt' % ('field' if n == 32 else 'wide48', n), f.roots(), f.powers()
         yield spec, 'table%d' % n, listed('table%d' % n), undo(f)
         yield spec, 'y%d' % n, numeral('y%d' % n), roots[:1]
-        yield spec, 'least%d' % n, r'binary%d y%d\s+\(([^\[]*)\[\]' % (n, n), roots[1:]
+        yield spec, 'others%d' % n, listed('others%d' % n), roots[1:]
         yield spec, 'powers%d' % n, listed('powers%d' % n), powers
         # the code reads the powers of 32 bits from the table of lifts
         if n == 32:
@@ -78,8 +78,9 @@ def tables():
             yield 'lifts/src/lib.rt', 'powers%d' % n, answer('powers%d' % n), powers
         for k in (21, 41):
             w = weights(f, k)
-            yield 'weights/specs/Weights%d.antt' % n, 'weights%dx%d' % (n, k), listed('weights%dx%d' % (n, k)), w
-            yield 'lagrange/src/lib.rt', 'WEIGHTS%d_%d' % (n, k), const('WEIGHTS%d_%d' % (n, k)), w
+            spec = '%s/specs/Weights%d.antt' % ('weights' if n == 32 else 'weights48', n)
+            yield spec, 'weights%dx%d' % (n, k), listed('weights%dx%d' % (n, k)), w
+            yield 'lagrange_points/src/lib.rt', 'WEIGHTS%d_%d' % (n, k), const('WEIGHTS%d_%d' % (n, k)), w
 
 
 def main():

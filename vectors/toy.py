@@ -39,7 +39,7 @@ TOY = Scheme(parties=3, executions=2, wide=1, low=0x1d, m1=1, m2=1, front=5, has
 ROWS = Scheme(parties=2, executions=1, wide=1, low=0x1d, m1=2, m2=2, front=5, hash=toy_hash, walk=toy_circuit(4))
 WIDE = Scheme(parties=2, executions=1, wide=2, low=0x2b, m1=2, m2=1, front=5, hash=toy_hash, walk=toy_circuit(2))
 SEAL, OPENING = sum(TOY.seal_sizes), sum(TOY.opening_sizes)
-NAMES = {TOY: 'toy', ROWS: 'rowsToy', WIDE: 'wideToy'}
+NAMES = {TOY: 'toy', ROWS: 'rows_toy', WIDE: 'wide_toy'}
 
 
 # ---- lists as the rows write them, with their bytes
@@ -94,7 +94,7 @@ def remove(at, n, t):
 
 
 def told(text, answer):
-    return 'verdictOf (%s)' % text, answer
+    return 'verdict_of (%s)' % text, answer
 
 
 # ---- calls as the rows write them
@@ -121,13 +121,13 @@ class Call:
     def output(self, n=None, **changes):
         """What the output holds, or its first n bytes."""
         text, _, after = self.apply(changes)
-        text = '%s %s .output' % (self.record, text)
-        return 'take %d (%s)' % (n, text) if n else text, after['output'][:n]
+        text = '(%s %s).output' % (self.record, text)
+        return 'take %d %s' % (n, text) if n else text, after['output'][:n]
 
     def work(self, **changes):
         """The first three bytes of the work slice."""
         text, _, after = self.apply(changes)
-        return 'take 3 (%s %s .work)' % (self.record, text), after['work'][:3]
+        return 'take 3 (%s %s).work' % (self.record, text), after['work'][:3]
 
     def refusals(self, *faults):
         """Each fault, given by its number and how the arguments change, along with all that come after it: the first is what is told."""
@@ -194,15 +194,15 @@ def opening_of(text, scheme, public_key, r, e, R, hidden):
     return made(text, sum(scheme.opening_sizes), open_execution, scheme, key.value, public_key.value, salt.value, root, bytes(r), e, R, hidden)
 
 
-public_key = public_key_of('publicKey', TOY)
-signature = signature_of('signatureFile', TOY, public_key)
-opening = opening_of('openingFile', TOY, public_key, [250], 1, 9, 1)
-first_hidden = opening_of('firstHidden', TOY, public_key, [250], 0, 1, 0)
-rows_key = public_key_of('rowsKey', ROWS)
-rows_signature = signature_of('rowsSignature', ROWS, rows_key)
-rows_opening = opening_of('rowsOpening', ROWS, rows_key, [5, 250], 0, 77, 1)
-wide_key = public_key_of('wideKey', WIDE)
-wide_opening = opening_of('wideOpening', WIDE, wide_key, [5, 250, 7, 131], 0, 0x1234, 0)
+public_key = public_key_of('public_key', TOY)
+signature = signature_of('signature_file', TOY, public_key)
+opening = opening_of('opening_file', TOY, public_key, [250], 1, 9, 1)
+first_hidden = opening_of('first_hidden', TOY, public_key, [250], 0, 1, 0)
+rows_key = public_key_of('rows_key', ROWS)
+rows_signature = signature_of('rows_signature', ROWS, rows_key)
+rows_opening = opening_of('rows_opening', ROWS, rows_key, [5, 250], 0, 77, 1)
+wide_key = public_key_of('wide_key', WIDE)
+wide_opening = opening_of('wide_opening', WIDE, wide_key, [5, 250, 7, 131], 0, 0x1234, 0)
 
 
 def hexadecimal(s):
@@ -213,15 +213,15 @@ frames = [frame_of(TOY, signature.value, e) for e in range(TOY.executions)]
 lines = [hexadecimal(s) for s in (public_key.value, message.value, signature.value[:96], *frames)]
 card_text = name('card', b''.join(lines))
 
-make_call = Call(TOY, 'makePublicKey', 'publicKeyAnswer', make_public_key, key=key, plaintext=front, output=fill(24, 7))
-rows_call = Call(ROWS, 'makePublicKey', 'publicKeyAnswer', make_public_key, key=key, plaintext=front, output=fill(21, 7))
+make_call = Call(TOY, 'make_public_key', 'public_key_answer', make_public_key, key=key, plaintext=front, output=fill(24, 7))
+rows_call = Call(ROWS, 'make_public_key', 'public_key_answer', make_public_key, key=key, plaintext=front, output=fill(21, 7))
 sign_call = Call(
-    TOY, 'sign', 'signAnswer', seal, key=key, public_key=public_key, message=message, salt=salt, seeds=seeds, output=fill(SEAL + 3, 7), work=work)
-verify_call = Call(TOY, 'verify', 'verifyAnswer', check_seal, public_key=public_key, message=message, file=signature, work=work)
+    TOY, 'sign', 'sign_answer', seal, key=key, public_key=public_key, message=message, salt=salt, seeds=seeds, output=fill(SEAL + 3, 7), work=work)
+verify_call = Call(TOY, 'verify', 'verify_answer', check_seal, public_key=public_key, message=message, file=signature, work=work)
 open_call = Call(
-    TOY, 'openExecution', 'openAnswer', open_execution, key=key, public_key=public_key, salt=salt, root=take(16, seeds), r=literal([250]), e=1,
+    TOY, 'open_execution', 'open_answer', open_execution, key=key, public_key=public_key, salt=salt, root=take(16, seeds), r=literal([250]), e=1,
     R=9, hidden=1, output=fill(OPENING + 3, 7), work=work)
-check_call = Call(TOY, 'verifyOpening', 'verifyOpeningAnswer', check_opening, public_key=public_key, file=opening, work=work)
+check_call = Call(TOY, 'verify_opening', 'verify_opening_answer', check_opening, public_key=public_key, file=opening, work=work)
 
 
 # ---- the rows, by kind: a comment, or what the definitions are asked for and what is expected
@@ -287,22 +287,22 @@ def slice_rows():
         call(answer, one, other)
         outputs += one
         works += other
-    yield 'map (λ (x : Answer). choose (clears (verdictOf x)) 0 7) answers', works
-    yield 'map (λ (x : Answer). getD (outputAfter x (5 ∷ []) (7 ∷ [])) 0 1) answers', outputs
+    yield 'map (λ (x : Answer). choose (clears (verdict_of x)) 0 7) answers', works
+    yield 'map (λ (x : Answer). get_or (output_after x (5 ∷ []) (7 ∷ [])) 0 1) answers', outputs
     yield 'two bytes beyond 65,536'
     longer = bytearray(work.value + bytes([8, 9]))
     call(bytes, work=longer)
-    yield 'drop 65534 (workAfter Accepted (work ++ (8 ∷ 9 ∷ [])))', longer[65534:]
+    yield 'drop 65534 (work_after Accepted (work ++ (8 ∷ 9 ∷ [])))', longer[65534:]
 
 
 def opening_told(file, key=public_key, scheme=TOY):
     answer = check_opening(scheme, key.value, file.value, bytearray(WORK))
-    return told('openingChecked %s %s %s' % (NAMES[scheme], key.text, file.text), answer)
+    return told('opening_checked %s %s %s' % (NAMES[scheme], key.text, file.text), answer)
 
 
 def signature_told(file, key=public_key, text=message, scheme=TOY):
     answer = check_seal(scheme, key.value, text.value, file.value, bytearray(WORK))
-    return told('signatureChecked %s %s %s %s' % (NAMES[scheme], key.text, text.text, file.text), answer)
+    return told('signature_checked %s %s %s %s' % (NAMES[scheme], key.text, text.text, file.text), answer)
 
 
 def opening_rows():
@@ -373,7 +373,7 @@ def signature_rows():
 
 def card_rows():
     def card_told(t):
-        return told('cardChecked toy ' + t.text, card(TOY, t.value))
+        return told('card_checked toy ' + t.text, card(TOY, t.value))
 
     ends = [sum(map(len, lines[:n + 1])) for n in range(5)]  # behind each line's end
     yield 'as it should be; nothing; no message; another c in the last frame'
@@ -416,24 +416,24 @@ def text_rows():
     yield 'how many digits a message may have'
     for n in (0, 1, 65536, 65537, 65538):
         text = hexadecimal(public_key.value) + b'0' * n + b'\n'
-        yield 'choose (hasSize true 32768 %d) (1 ∷ []) (0 ∷ [])' % n, [int(card(TOY, text) == (18, 3))]
+        yield 'choose (has_size true 32768 %d) (1 ∷ []) (0 ∷ [])' % n, [int(card(TOY, text) == (18, 3))]
     yield 'what is printed'
     for verdict in ((0, 0), (18, 1), (1, 0), (9, 0), (11, 199), (14, 16), (15, 40), (18, 45), (10, 100)):
         yield 'printed (verdict %d %d)' % verdict, printed(*verdict)
     yield 'for no text'
-    yield 'printed (verdictOf (cardChecked toy []))', printed(*card(TOY, b''))
+    yield 'printed (verdict_of (card_checked toy []))', printed(*card(TOY, b''))
     yield 'a card\'s text'
-    yield 'cardText toy publicKey message signatureFile', card_text.value
+    yield 'card_text toy public_key message signature_file', card_text.value
     yield 'frames of a signature: both, the next, one of a file that is too short'
     for e, file in ((0, signature), (1, signature), (2, signature), (0, take(SEAL - 1, signature))):
-        yield 'frameOf toy %s %d' % (file.text, e), frame_of(TOY, file.value, e)
+        yield 'frame_of toy %s %d' % (file.text, e), frame_of(TOY, file.value, e)
     yield 'two rows of S-boxes: a public key, the product offset at 3, the second party\'s shares of a in an opening'
     yield rows_call.output()
     at = starts(ROWS.opening_sizes)
     offset, a = at[7] + 1, at[10] + 2
-    asked = 'productOffsetAt rowsToy (tapeOf rowsToy salt (take 16 seeds) 0) plaintext key (5 ∷ 250 ∷ []) 3 ∷ []'
+    asked = 'product_offset_at rows_toy (tape_of rows_toy salt (take 16 seeds) 0) plaintext key (5 ∷ 250 ∷ []) 3 ∷ []'
     yield asked, rows_opening.value[offset:offset + 1]
-    yield 'part %d 2 (opening rowsToy key rowsKey salt (take 16 seeds) (5 ∷ 250 ∷ []) 0 77 1)' % a, rows_opening.value[a:a + 2]
+    yield 'part %d 2 (opening rows_toy key rows_key salt (take 16 seeds) (5 ∷ 250 ∷ []) 0 77 1)' % a, rows_opening.value[a:a + 2]
 
 
 def other_rows():
@@ -449,31 +449,28 @@ def other_rows():
 # ---- the file
 
 HEADER = """-- Written by vectors/toy.py: what the definitions are asked for, and what they ought to give.
-use mathlib.Core.Bool.{true}
-use mathlib.Core.List.{List, [], _∷_, _++_, map}
-use Prim.Native.Nat.{ℕ}
-use lib.ListN.{getD, take, drop, replicate}
-use Rattle·slices.specs.Lists.{choose, part, put}
-use Rattle·banquet.specs.declared.Verdict.{Verdict}
-use Rattle·banquet.specs.declared.Answer.{Answer}
-use Rattle·banquet.specs.declared.Answer.the-variants.{Accepted}
-use Rattle·banquet.specs.Answer.{verdict, verdictOf, clears, workAfter, outputAfter}
-use Rattle·banquet.specs.Signer.{tapeOf, productOffsetAt}
-use Rattle·banquet.specs.Opening.{opening}
-use Rattle·banquet.specs.Signature.{frameOf}
-use Rattle·banquet.specs.Calls.{
-  publicKeyAnswer,
-  makePublicKey,
-  signAnswer,
+use Rattle.std.specs.Prelude.{true, List, [], ◌∷◌, ◌++◌, map, ℕ, get_or, take, drop, replicate}
+use Rattle.slices.specs.Lists.{choose, part, put}
+use Rattle.banquet.specs.declared.Verdict.{Verdict}
+use Rattle.banquet.specs.declared.Answer.{Answer}
+use Rattle.banquet.specs.declared.Answer.TheVariants.{Accepted}
+use Rattle.banquet.specs.Answer.{verdict, verdict_of, clears, work_after, output_after}
+use Rattle.banquet.specs.Signer.{tape_of, product_offset_at}
+use Rattle.banquet.specs.Opening.{opening}
+use Rattle.banquet.specs.Signature.{frame_of}
+use Rattle.banquet.specs.Calls.{
+  public_key_answer,
+  make_public_key,
+  sign_answer,
   sign,
-  verifyAnswer,
-  openAnswer,
-  openExecution,
-  verifyOpeningAnswer,
-  verifyOpening,
+  verify_answer,
+  open_answer,
+  open_execution,
+  verify_opening_answer,
+  verify_opening,
 }
-use Rattle·banquet.specs.Card.{hasSize, cardText, printed}
-use Rattle·toy·specs.specs.Toy.{toy, rowsToy, wideToy, Row, answers, insert, remove, openingChecked, signatureChecked, cardChecked}
+use Rattle.banquet.specs.Card.{has_size, card_text, printed}
+use Rattle.toy.specs.Toy.{toy, rows_toy, wide_toy, Row, answers, insert, remove, opening_checked, signature_checked, card_checked}
 """
 
 VERDICTS, LISTS = 'List (Row Verdict)', 'List (Row (List ℕ))'
