@@ -1,0 +1,19 @@
+-- `stdio::read`: at least one byte a turn, and no more than were asked for. Assumes nothing.
+use Rattle.std.proofs.Common.{rules, arith, length, ◌≤◌, ◌<◌, ◌+◌}
+use Rattle.stdio.proofs.Laws.{bytes_some}
+use Rattle.stdio.proofs.read.Goals as goal
+
+-- what a turn adds
+some : (c : goal.In-Bytes) → (0 < c.in-Bytes.more) × (c.loop-done.done + c.in-Bytes.more ≤ length c.args.text.now)
+some c =
+    let moved = bytes_some _ c.read.result c.read.ensures.bound c.in-Bytes.ensures in
+    search (rules, arith, moved)
+
+pub overflow_add-done : goal.overflow_add-done
+overflow_add-done c = search (arith, some c)
+
+pub loop-done-smaller : goal.loop-done-smaller
+loop-done-smaller c = search (arith, some c)
+
+pub loop-done-preserved : goal.loop-done-preserved
+loop-done-preserved c = search (rules, arith, some c)
