@@ -13,44 +13,44 @@ use Rattle.stream.proofs.Input.{absorb_turn}
 use Rattle.absorb.proofs.absorb.Statement.{statement}
 use Rattle.absorb.proofs.absorb.Tie as tie
 
-abbrev invariant-loop : tie.invariant-loop
+abbrev invariant-loop : tie.invariant-loop-j
 invariant-loop src lanes₀ at₀ j₀ lanes at j = (j ≤ length src) × (sponge lanes at ≡ absorbed (sponge lanes₀ at₀) (take j src))
 
-abbrev decreases-loop : tie.decreases-loop
+abbrev decreases-loop : tie.decreases-loop-j
 decreases-loop src lanes₀ at₀ j₀ lanes at j = length src - j
 
 -- past the branch the sponge is ready for a byte
-is_ready : (c : tie.Joined1 invariant-loop decreases-loop)
-    → let h = c.before.before.loop in sponge c.if1.lanes c.if1.at ≡ ready (sponge h.lanes h.at)
+is_ready : (c : tie.Joined-at-ge168 invariant-loop decreases-loop)
+    → let h = c.before.before.loop-j in sponge c.if-at-ge168.lanes c.if-at-ge168.at ≡ ready (sponge h.lanes h.at)
 is_ready c =
-    ⊎_elim (λ w. ready_full _ w.0.taken (w.3 ∙ w.2.ensures) w.4) (λ w. ready_more _ w.0.left w.1 w.2) c.if1.branch
+    ⊎_elim (λ w. ready_full _ w.if-at-ge168.true (w.lanes-is ∙ w.permute.ensures) w.at-is) (λ w. ready_more _ w.if-at-ge168.false w.lanes-is w.at-is) c.if-at-ge168.branch-raw
 
-has_room : (c : tie.Joined1 invariant-loop decreases-loop) → c.if1.at < rate
+has_room : (c : tie.Joined-at-ge168 invariant-loop decreases-loop) → c.if-at-ge168.at < rate
 has_room c = ready_room _ (is_ready c)
 
-loop-holds : tie.Need-loop-init invariant-loop decreases-loop
+loop-holds : tie.Need-loop-j-init invariant-loop decreases-loop
 unfolding absorbed
 loop-holds c = (omega arith, refl)
 
-loop-again : tie.Need-loop-preserved invariant-loop decreases-loop
+loop-again : tie.Need-loop-j-preserved invariant-loop decreases-loop
 loop-again c =
-    let call = c.before.absorb-some in
+    let call = c.absorb_some-w in
     let r = c.before.before.before in
-    let h = r.before.before in
-    let a = h.before.before.before.args in
+    let h = r in
+    let a = h.args in
     let e = call.ensures in (
       e.2,
-      absorb_turn a.s a.src.now h.loop.j call.result h.loop.invariant.1 (is_ready r) e.0 e.2 e.3,
+      absorb_turn a.s a.src.now h.loop-j.j call.result h.loop-j.invariant.1 (is_ready r) e.0 e.2 e.3,
     )
 
 returns : tie.Need-returns invariant-loop decreases-loop
 returns c =
-    let h = c.before in
-    let a = h.before.before.before.args in
-    h.loop.invariant.1 ∙ ap (absorbed a.s) (take_all h.loop.j a.src.now c.loop-test.false)
+    let h = c in
+    let a = h.args in
+    h.loop-j.invariant.1 ∙ ap (absorbed a.s) (take_all h.loop-j.j a.src.now c.loop-j-test.false)
 
 pub absorb_spec : {M : Type 1} → statement M
 absorb_spec =
     tie.close
-    (tie.spec invariant-loop decreases-loop loop-holds (λ c κs. tt) (λ c κs. (has_room c.before, c.before.before.loop-test.true))
+    (tie.spec invariant-loop decreases-loop loop-holds (λ c κs. tt) (λ c κs. (has_room c.before, c.loop-j-test.true))
     (λ c. search rules) (λ c. search rules) (λ c. search rules) loop-again returns)

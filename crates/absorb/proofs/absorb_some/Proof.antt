@@ -21,39 +21,39 @@ by_bytes a src at k n m j e f g h =
     let p : at + 8 * m ≡ 8 * (k + n) = omega arith in
     rw (p, g, e, ← f) h
 
-returns : tie.Need-returns
+returns : tie.Need-returns-after-n-eq21
 returns c =
-    let whole = c.before in
-    let piece = whole.before.before in
-    let start = piece.before.before in
+    let whole = c in
+    let piece = whole in
+    let start = piece in
     let a = start.args in
-    let n = whole.whole.result in
+    let n = whole.whole-n.result in
     let t =
-    whole_takes a.at (length a.src.now) a.j n start.requires.0 start.requires.1 piece.piece.ensures whole.before.if1.true
-    whole.whole.ensures in (
+    whole_takes a.at (length a.src.now) a.j n start.requires.0 start.requires.1 piece.piece-w.ensures whole.if-w-eq8.true
+    whole.whole-n.ensures in (
       t.0,
       t.1,
       t.2,
       ⊎_elim
-          (λ w. by_bytes a.lanes.now a.src.now a.at (a.at / 8) 21 n a.j t.3 (sym w.0.taken) w.3 w.2.ensures)
-          (λ w. by_bytes a.lanes.now a.src.now a.at (a.at / 8) n n a.j t.3 refl w.3 w.2.ensures)
-          c.if2.branch,
+          (λ w. by_bytes a.lanes.now a.src.now a.at (a.at / 8) 21 n a.j t.3 (sym w.if-n-eq21.true) w.lanes-is w.add_lanes.ensures)
+          (λ w. by_bytes a.lanes.now a.src.now a.at (a.at / 8) n n a.j t.3 refl w.lanes-is w.add_lanes-else-n-eq21.ensures)
+          c.if-n-eq21.branch-raw,
     )
 
-returns-2 : tie.Need-returns-2
+returns-2 : tie.Need-returns-else-w-eq8
 returns-2 c =
-    let l = c.before in
-    let piece = l.before.before in
-    let known = piece.before in
-    let start = known.before in
+    let l = c in
+    let piece = l in
+    let known = piece in
+    let start = known in
     let a = start.args in
-    let w = piece.piece.result in
-    let t = piece_takes a.at (length a.src.now) a.j w start.requires.0 start.requires.1 piece.piece.ensures in (
+    let w = piece.piece-w.result in
+    let t = piece_takes a.at (length a.src.now) a.j w start.requires.0 start.requires.1 piece.piece-w.ensures in (
       t.0,
       t.1,
       t.2,
-      absorbed_piece a.lanes.now a.at a.src.now a.j w l.load.result (bytes_of known.shared-slice-known.given)
-          start.requires.0 t.3 t.2 l.load.ensures,
+      absorbed_piece a.lanes.now a.at a.src.now a.j w l.load-x.result (bytes_of known.shared_slice_known-1.given)
+          start.requires.0 t.3 t.2 l.load-x.ensures,
     )
 
 pub absorb_some_spec : {M : Type 1} → statement M
