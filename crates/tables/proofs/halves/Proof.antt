@@ -35,19 +35,19 @@ entry_more f d at n {l} {x} e h v =
     (ap (λ (m : ℕ). set (put d at (tab f n)) (at + m) (f n)) (sym long) ∙ put_snoc d at (tab f n) (f n) (rw long h)
     ∙ ap (put d at) (tab_snoc f n [] ∙ append-nil (tab f (suc n))))
 
-abbrev invariant-loop : tie.invariant-loop
+abbrev invariant-loop : tie.invariant-loop-n
 invariant-loop p out₀ at n₀ out n = (n ≤ 32) × (length out ≡ length out₀) × (out ≡ put out₀ at (tab (entry p) n))
 
-abbrev decreases-loop : tie.decreases-loop
+abbrev decreases-loop : tie.decreases-loop-n
 decreases-loop p out₀ at n₀ out n = 32 - n
 
-loop-holds : tie.Need-loop-init invariant-loop decreases-loop
+loop-holds : tie.Need-loop-n-init invariant-loop decreases-loop
 loop-holds c = (omega arith, refl, put_none _ _)
 
-loop-again : tie.Need-loop-preserved invariant-loop decreases-loop
+loop-again : tie.Need-loop-n-preserved invariant-loop decreases-loop
 loop-again c =
-    let l = c.before.before.loop in
-    let args = c.before.before.before.before.before.args in (
+    let l = c.loop-n in
+    let args = c.args in (
       omega arith,
       length-set l.out (args.at + l.n) _ ∙ l.invariant.1,
       entry_more (entry args.p.now) args.out.now args.at l.n l.invariant.2 (omega arith) c.combination.ensures,
@@ -55,8 +55,8 @@ loop-again c =
 
 returns : tie.Need-returns invariant-loop decreases-loop
 returns c =
-    let l = c.before.loop in
-    let args = c.before.before.before.before.args in
+    let l = c.loop-n in
+    let args = c.args in
     let e : l.n ≡ 32 = omega arith in
     rw e at l.invariant.2 ∙ ap (put args.out.now args.at) (entries args.p.now (omega arith))
 

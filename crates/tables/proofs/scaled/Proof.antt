@@ -11,24 +11,24 @@ use Rattle.field.specs.Ring.{mul as product}
 use Rattle.tables.proofs.scaled.Statement.{statement}
 use Rattle.tables.proofs.scaled.Tie as tie
 
-abbrev invariant-loop : tie.invariant-loop
+abbrev invariant-loop : tie.invariant-loop-i
 invariant-loop bits low powers c p₀ i₀ p i = Filling (λ k. product bits low c (get_or powers k 0)) 8 p₀ i p
 
-abbrev decreases-loop : tie.decreases-loop
+abbrev decreases-loop : tie.decreases-loop-i
 decreases-loop bits low powers c p₀ i₀ p i = 8 - i
 
-loop-holds : tie.Need-loop-init invariant-loop decreases-loop
+loop-holds : tie.Need-loop-i-init invariant-loop decreases-loop
 loop-holds c = filling_none refl
 
-loop-again : tie.Need-loop-preserved invariant-loop decreases-loop
-loop-again c = filling_more c.before.before.before.loop.invariant (omega arith) c.mul.ensures
+loop-again : tie.Need-loop-i-preserved invariant-loop decreases-loop
+loop-again c = filling_more c.loop-i.invariant (omega arith) c.mul.ensures
 
 returns : tie.Need-returns invariant-loop decreases-loop
 returns c =
-    let start = c.before.before.before in
+    let start = c in
     let f = product start.args.bits start.args.low start.args.c in
     let powers = start.args.powers.now in
-    filling_all c.before.loop.invariant (omega arith) ∙ ap (tab (λ k. f (get_or powers k 0))) (sym start.requires.1) ∙ tab_map f powers
+    filling_all c.loop-i.invariant (omega arith) ∙ ap (tab (λ k. f (get_or powers k 0))) (sym start.requires.1) ∙ tab_map f powers
 
 pub scaled_spec : {M : Type 1} → statement M
 scaled_spec =

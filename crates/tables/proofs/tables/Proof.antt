@@ -9,29 +9,29 @@ use Rattle.tables.specs.Tables.{halves, table_of}
 use Rattle.tables.proofs.tables.Statement.{statement}
 use Rattle.tables.proofs.tables.Tie as tie
 
-abbrev invariant-loop : tie.invariant-loop
+abbrev invariant-loop : tie.invariant-loop-k
 invariant-loop bits low powers coefficients out₀ k₀ k_end out k =
     (k ≤ length coefficients) × Stacking (λ k. table_of bits low powers (get_or coefficients k 0)) 32 k (length coefficients * 32) out
 
-abbrev decreases-loop : tie.decreases-loop
+abbrev decreases-loop : tie.decreases-loop-k
 decreases-loop bits low powers coefficients out₀ k₀ k_end out k = length coefficients - k
 
-loop-holds : tie.Need-loop-init invariant-loop decreases-loop
-loop-holds c = (search rules, stacking_none _ 32 c.before.before.before.requires.2)
+loop-holds : tie.Need-loop-k-init invariant-loop decreases-loop
+loop-holds c = (search rules, stacking_none _ 32 c.requires.2)
 
-loop-again : tie.Need-loop-preserved invariant-loop decreases-loop
+loop-again : tie.Need-loop-k-preserved invariant-loop decreases-loop
 unfolding halves table_of
 loop-again c =
-    let written = c.before.before in
-    let p = written.before.before.before in
-    let l = p.before.before.before in
-    (omega arith, stacking_more l.loop.invariant.1 refl (ap halves p.scaled.ensures) (row_fits 32 (omega arith)) written.halves.ensures)
+    let written = c in
+    let p = written in
+    let l = p in
+    (omega arith, stacking_more l.loop-k.invariant.1 refl (ap halves p.scaled-p.ensures) (row_fits 32 (omega arith)) written.halves.ensures)
 
 returns : tie.Need-returns invariant-loop decreases-loop
 returns c =
-    let l = c.before in
-    let e : l.loop.k ≡ length l.before.before.before.before.args.coefficients.now = omega arith in
-    stacking_all (rw e at l.loop.invariant.1) (omega arith)
+    let l = c in
+    let e : l.loop-k.k ≡ length l.args.coefficients.now = omega arith in
+    stacking_all (rw e at l.loop-k.invariant.1) (omega arith)
 
 pub tables_spec : {M : Type 1} → statement M
 tables_spec =
