@@ -7,7 +7,7 @@ use Rattle.lagrange_points.proofs.values32_21.Tie as tie
 
 values-requires : tie.Need-values-requires
 unfolding weights32x21
-values-requires c κs = let s = c.before.before.before in (wide32.fits, s.requires.0, s.requires.1, weights32x21_right)
+values-requires c κs = let s = c in (wide32.fits, s.requires.0, s.requires.1, weights32x21_right)
 
 pub values32_21_spec : {M : Type 1} → statement M
 values32_21_spec = tie.close (tie.spec (λ c. search rules) values-requires (λ c. search rules) (λ c. search rules))

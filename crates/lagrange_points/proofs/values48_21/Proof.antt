@@ -7,7 +7,7 @@ use Rattle.lagrange_points.proofs.values48_21.Tie as tie
 
 values-requires : tie.Need-values-requires
 unfolding weights48x21
-values-requires c κs = let s = c.before.before.before in (wide48.fits, s.requires.0, s.requires.1, weights48x21_right)
+values-requires c κs = let s = c in (wide48.fits, s.requires.0, s.requires.1, weights48x21_right)
 
 pub values48_21_spec : {M : Type 1} → statement M
 values48_21_spec = tie.close (tie.spec (λ c. search rules) values-requires (λ c. search rules) (λ c. search rules))

@@ -7,7 +7,7 @@ use Rattle.lagrange_points.proofs.values48_41.Tie as tie
 
 values-requires : tie.Need-values-requires
 unfolding weights48x41
-values-requires c κs = let s = c.before.before.before in (wide48.fits, s.requires.0, s.requires.1, weights48x41_right)
+values-requires c κs = let s = c in (wide48.fits, s.requires.0, s.requires.1, weights48x41_right)
 
 pub values48_41_spec : {M : Type 1} → statement M
 values48_41_spec = tie.close (tie.spec (λ c. search rules) values-requires (λ c. search rules) (λ c. search rules))
