@@ -6,4 +6,4 @@ use Rattle.heads.proofs.h1.Tie as tie
 
 pub h1_spec : {M : Type 1} → statement M
 h1_spec =
-    tie.close (tie.spec (λ c. search rules) (λ c. search rules) (λ c. search rules) (λ c. h1_is c.before.args.s.now))
+    tie.close (tie.spec (λ c. search rules) (λ c. search rules) (λ c. search rules) (λ c. h1_is c.args.s.now))

@@ -6,4 +6,4 @@ use Rattle.heads.proofs.h3.Tie as tie
 
 pub h3_spec : {M : Type 1} → statement M
 h3_spec =
-    tie.close (tie.spec (λ c. search rules) (λ c. search rules) (λ c. search rules) (λ c. h3_is c.before.args.s.now))
+    tie.close (tie.spec (λ c. search rules) (λ c. search rules) (λ c. search rules) (λ c. h3_is c.args.s.now))

@@ -6,4 +6,4 @@ use Rattle.heads.proofs.salt.Tie as tie
 
 pub salt_spec : {M : Type 1} → statement M
 salt_spec =
-    tie.close (tie.spec (λ c. search rules) (λ c. search rules) (λ c. search rules) (λ c. salt_is c.before.args.s.now))
+    tie.close (tie.spec (λ c. search rules) (λ c. search rules) (λ c. search rules) (λ c. salt_is c.args.s.now))
