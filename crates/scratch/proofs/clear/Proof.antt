@@ -6,8 +6,8 @@ use Rattle.scratch.proofs.clear.Tie as tie
 
 returns : tie.Need-returns
 returns c =
-    let s = c.before.before.before.before.before in
-    front_cleared s.args.work.now c.before.before.zero.ensures s.requires
+    let s = c in
+    front_cleared s.args.work.now c.zero.ensures s.requires
 
 pub clear_spec : {M : Type 1} → statement M
 clear_spec =
