@@ -19,7 +19,7 @@ plus_rcon t c = ap (bit_xor (get_or t 0 0) c ∷◌) (ap₂ ◌∷◌ (none 1) (
 returns : tie.Need-returns
 returns c =
     let args = c.args in
-    c.next_key.ensures ∙ ap (next_key args.k) (plus_rcon args.t2 args.c)
+    c.next_key.ensures ∙ ap (next_key args.k) (plus_rcon args.s args.c)
 
 pub key_step_spec : {M : Type 1} → statement M
 key_step_spec =

@@ -58,8 +58,8 @@ loop-holds c = filling_none refl
 loop-again : tie.Need-loop-i-preserved invariant-loop decreases-loop
 loop-again c =
     let at = c in
-    let k = at.args.t1 in
-    let temp = at.args.t2 in
+    let k = at.args.k in
+    let temp = at.args.temp in
     let i = at.loop-i.i in
     filling_more at.loop-i.invariant (omega arith)
     (⊎_elim (λ w. ap (bit_xor (get_or k i 0)) w.before-is ∙ first_word k temp i w.if-i-lt4.true)

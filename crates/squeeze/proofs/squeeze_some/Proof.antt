@@ -17,36 +17,36 @@ by_bytes : (a d : List ℕ) (at k n m j : ℕ) {l l' : List ℕ} → at ≡ 8 * 
     → l' ≡ put d j (squeezed (sponge a (8 * k)) (8 * n)) → l ≡ put d j (squeezed (sponge a at) (8 * m))
 by_bytes a d at k n m j e f g h = rw (g, e, ← f) h
 
-same_length : tie.Need-same-length
-same_length c = ⊎_elim (λ w. ap length w.5 ∙ w.2.kept.1.1.0) (λ w. ap length w.5 ∙ w.2.kept.1.1.0) c.if2.branch
+same_length : tie.Need-shape_of-out-after-n-eq21
+same_length c = ⊎_elim (λ w. ap length w.out-is ∙ w.write_lanes.auto.out) (λ w. ap length w.out-is ∙ w.write_lanes-else-n-eq21.auto.out) c.if-n-eq21.branch-raw
 
-returns : tie.Need-returns
+returns : tie.Need-returns-after-n-eq21
 returns c =
-    let whole = c.before in
-    let piece = whole.before.before in
-    let start = piece.before.before in
+    let whole = c in
+    let piece = whole in
+    let start = piece in
     let a = start.args in
-    let n = whole.whole.result in
+    let n = whole.whole-n.result in
     let t =
-    whole_takes a.at (length a.out.now) a.j n start.requires.0 start.requires.1 piece.piece.ensures whole.before.if1.true
-    whole.whole.ensures in (
+    whole_takes a.at (length a.out.now) a.j n start.requires.0 start.requires.1 piece.piece-w.ensures whole.if-w-eq8.true
+    whole.whole-n.ensures in (
       t.0,
       t.1,
       t.2,
       ⊎_elim
-          (λ w. by_bytes a.lanes.now a.out.now a.at (a.at / 8) 21 n a.j t.3 (sym w.0.taken) w.5 w.2.ensures)
-          (λ w. by_bytes a.lanes.now a.out.now a.at (a.at / 8) n n a.j t.3 refl w.5 w.2.ensures)
-          c.if2.branch,
+          (λ w. by_bytes a.lanes.now a.out.now a.at (a.at / 8) 21 n a.j t.3 (sym w.if-n-eq21.true) w.out-is w.write_lanes.ensures)
+          (λ w. by_bytes a.lanes.now a.out.now a.at (a.at / 8) n n a.j t.3 refl w.out-is w.write_lanes-else-n-eq21.ensures)
+          c.if-n-eq21.branch-raw,
     )
 
-returns-2 : tie.Need-returns-2
+returns-2 : tie.Need-returns-else-w-eq8
 returns-2 c =
-    let st = c.before.before.store in
-    let piece = c.before.before.before.before.before.before in
-    let start = piece.before.before in
+    let st = c.store in
+    let piece = c in
+    let start = piece in
     let a = start.args in
-    let w = piece.piece.result in
-    let t = piece_takes a.at (length a.out.now) a.j w start.requires.0 start.requires.1 piece.piece.ensures in (
+    let w = piece.piece-w.result in
+    let t = piece_takes a.at (length a.out.now) a.j w start.requires.0 start.requires.1 piece.piece-w.ensures in (
       t.0,
       t.1,
       t.2,

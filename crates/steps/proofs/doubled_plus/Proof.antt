@@ -10,24 +10,24 @@ use Rattle.field.specs.Byte.{mul8}
 use Rattle.steps.proofs.doubled_plus.Statement.{statement}
 use Rattle.steps.proofs.doubled_plus.Tie as tie
 
-abbrev invariant-loop : tie.invariant-loop
+abbrev invariant-loop : tie.invariant-loop-i
 invariant-loop u t v out₀ i₀ out i = Filling (λ k. bit_xor (bit_xor (mul8 2 (get_or u k 0)) (get_or t k 0)) (get_or v k 0)) 16 out₀ i out
 
-abbrev decreases-loop : tie.decreases-loop
+abbrev decreases-loop : tie.decreases-loop-i
 decreases-loop u t v out₀ i₀ out i = 16 - i
 
-loop-holds : tie.Need-loop-init invariant-loop decreases-loop
+loop-holds : tie.Need-loop-i-init invariant-loop decreases-loop
 loop-holds c = filling_none refl
 
-loop-again : tie.Need-loop-preserved invariant-loop decreases-loop
+loop-again : tie.Need-loop-i-preserved invariant-loop decreases-loop
 loop-again c =
-    let at = c.before.before in
-    let args = at.before.args in
-    filling_more at.loop.invariant (omega arith)
-    (ap (λ (x : ℕ). bit_xor (bit_xor x (get_or args.t2 at.loop.i 0)) (get_or args.t3 at.loop.i 0)) c.double.ensures)
+    let at = c in
+    let args = at.args in
+    filling_more at.loop-i.invariant (omega arith)
+    (ap (λ (x : ℕ). bit_xor (bit_xor x (get_or args.t at.loop-i.i 0)) (get_or args.v at.loop-i.i 0)) c.double.ensures)
 
 returns : tie.Need-returns invariant-loop decreases-loop
-returns c = filling_all c.before.loop.invariant (omega arith)
+returns c = filling_all c.loop-i.invariant (omega arith)
 
 pub doubled_plus_spec : {M : Type 1} → statement M
 doubled_plus_spec =

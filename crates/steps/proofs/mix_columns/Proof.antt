@@ -11,14 +11,14 @@ use Rattle.steps.proofs.mix_columns.Tie as tie
 
 returns : tie.Need-returns
 returns c =
-    let two = c.before in
-    let plus = two.before.before in
-    let s = plus.before.before.args.s in
-    let t = plus.before.below.ensures in
-    let u : plus.add-blocks.result ≡ add 16 s (below s) = plus.add-blocks.ensures ∙ ap (add 16 s) t in
-    c.doubled-plus.ensures ∙ ap₂ (λ (u t : List ℕ). doubled_plus u t two.below3.result) u t
-    ∙ ap (doubled_plus (add 16 s (below s)) (below s)) (two.below3.ensures ∙ ap below (two.before.below2.ensures ∙ ap below u))
-    ∙ mix_columns_by_blocks (array_bytes 16 s _ plus.before.before.well-formed.0)
+    let two = c in
+    let plus = two in
+    let s = plus.args.s in
+    let t = plus.below-t.ensures in
+    let u : plus.add_blocks-u.result ≡ add 16 s (below s) = plus.add_blocks-u.ensures ∙ ap (add 16 s) t in
+    c.doubled_plus.ensures ∙ ap₂ (λ (u t : List ℕ). doubled_plus u t two.below-2.result) u t
+    ∙ ap (doubled_plus (add 16 s (below s)) (below s)) (two.below-2.ensures ∙ ap below (two.below.ensures ∙ ap below u))
+    ∙ mix_columns_by_blocks (array_bytes 16 s _ plus.well_formed.0)
 
 pub mix_columns_spec : {M : Type 1} → statement M
 mix_columns_spec =

@@ -8,16 +8,16 @@ use Rattle.aes.specs.Aes.{add, mix_columns}
 use Rattle.steps.proofs.round.Statement.{statement}
 use Rattle.steps.proofs.round.Tie as tie
 
-last : tie.Need-returns
+last : tie.Need-returns-then-n-eq9
 last c =
-    let b = c.before.before in
-    (λ l. absurd (omega arith), λ e. c.add-blocks.ensures ∙ ap (λ (x : List ℕ). add 16 x b.before.args.k) b.shift-rows.ensures)
+    let b = c in
+    (λ l. absurd (omega arith), λ e. c.add_blocks.ensures ∙ ap (λ (x : List ℕ). add 16 x b.args.k) b.shift_rows-shifted.ensures)
 
-other : tie.Need-returns-2
+other : tie.Need-returns
 other c =
-    let m = c.before in
-    let b = m.before.before in (
-      λ l. c.add-blocks2.ensures ∙ ap (λ (x : List ℕ). add 16 x b.before.args.k) (m.mix-columns.ensures ∙ ap mix_columns b.shift-rows.ensures),
+    let m = c in
+    let b = m in (
+      λ l. c.add_blocks-2.ensures ∙ ap (λ (x : List ℕ). add 16 x b.args.k) (m.mix_columns.ensures ∙ ap mix_columns b.shift_rows-shifted.ensures),
       λ e. absurd (omega arith),
     )
 

@@ -8,20 +8,20 @@ use Rattle.aes.specs.Aes.{cell}
 use Rattle.steps.proofs.shift_rows.Statement.{statement}
 use Rattle.steps.proofs.shift_rows.Tie as tie
 
-abbrev invariant-loop : tie.invariant-loop
+abbrev invariant-loop : tie.invariant-loop-i
 invariant-loop s out₀ i₀ out i = Filling (λ k. cell s (k % 4) ((k / 4 + k % 4) % 4)) 16 out₀ i out
 
-abbrev decreases-loop : tie.decreases-loop
+abbrev decreases-loop : tie.decreases-loop-i
 decreases-loop s out₀ i₀ out i = 16 - i
 
-loop-holds : tie.Need-loop-init invariant-loop decreases-loop
+loop-holds : tie.Need-loop-i-init invariant-loop decreases-loop
 loop-holds c = filling_none refl
 
-loop-again : tie.Need-loop-preserved invariant-loop decreases-loop
-loop-again c = filling_more c.before.loop.invariant (omega arith) refl
+loop-again : tie.Need-loop-i-preserved invariant-loop decreases-loop
+loop-again c = filling_more c.loop-i.invariant (omega arith) refl
 
 returns : tie.Need-returns invariant-loop decreases-loop
-returns c = filling_all c.before.loop.invariant (omega arith)
+returns c = filling_all c.loop-i.invariant (omega arith)
 
 pub shift_rows_spec : {M : Type 1} → statement M
 shift_rows_spec =
