@@ -10,13 +10,13 @@ use Rattle.sponge.proofs.digest.Tie as tie
 
 returns : tie.Need-returns
 returns c =
-    let q = c.before.before in
-    let f = q.before.before in
-    let b = f.before.before.before.before in
-    let m = b.before.args.src.now in
+    let q = c in
+    let f = q in
+    let b = f in
+    let m = b.args.src.now in
     q.squeeze.ensures.0
-    ∙ output m (length b.before.args.out.now) (bytes_of b.shared-slice-known.given)
-    (f.before.absorb.ensures ∙ ap (λ s. absorbed s m) f.before.before.new.ensures) f.finish.ensures
+    ∙ output m (length b.args.out.now) (bytes_of b.shared_slice_known-1.given)
+    (f.absorb-a.ensures ∙ ap (λ s. absorbed s m) f.new-s.ensures) f.finish-f.ensures
 
 pub digest_spec : {M : Type 1} → statement M
 digest_spec =
