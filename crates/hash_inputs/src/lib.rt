@@ -1,4 +1,6 @@
 // What stands at the beginning of the hash inputs 1, 2, 3, 6, 7 and 8, as sponges that have absorbed it, and the end of a stream.
+#![tactic(auto)]
+
 ghost use Rattle.std.specs.Prelude.{◌≡◌, ◌∷◌, length};
 ghost use Rattle.shake.specs.Shake128.{shake128};
 ghost use Rattle.stream.specs.Stream.{empty, absorbed, finished, squeezed};

@@ -10,12 +10,12 @@ use Rattle.hash_inputs.proofs.draw.Tie as tie
 
 returns : tie.Need-returns
 returns c =
-    let q = c.before.before in
-    let t = q.before.before in
-    let b = t.before.before in
-    let a = b.before.args in
+    let q = c in
+    let t = q in
+    let b = t in
+    let a = b.args in
     q.output.ensures
-    ∙ output (a.tag ∷ a.h.now) (length a.out.now) (cons_bytes b.before.ranges.tag.fits (bytes_of b.shared-slice-known.given)) t.tagged.ensures refl
+    ∙ output (a.tag ∷ a.h.now) (length a.out.now) (cons_bytes b.ranges.tag.fits (bytes_of b.shared_slice_known-1.given)) t.tagged-s.ensures refl
 
 pub draw_spec : {M : Type 1} → statement M
 draw_spec = tie.close (tie.spec (λ c κs. search rules) (λ c κs. search rules) (λ c. search rules) returns)

@@ -12,24 +12,24 @@ use Rattle.hash_inputs.proofs.first_input.Statement.{statement}
 use Rattle.hash_inputs.proofs.first_input.Tie as tie
 
 -- the array holds the message's length
-number : (c : tie.After-store) → c.store.new.0 ≡ bytes_of 4 (length c.before.before.before.before.before.before.args.message.now)
+number : (c : tie.After-store) → c.store.new.s ≡ bytes_of 4 (length c.before.before.before.before.before.before.args.message.now)
 unfolding put bytes_of
 number c = c.store.ensures
 
 returns : tie.Need-returns
 returns c =
-    let third = c.before in
-    let second = third.before in
-    let store = second.before.before.before in
-    let first = store.before.before in
-    let a = first.before.before.before.before.args in
+    let third = c in
+    let second = third in
+    let store = second.before.before.before.before.before in
+    let first = store in
+    let a = first.args in
     let m = a.message.now in
     let head : List ℕ = 1 ∷ a.public.now in
     let size = bytes_of 4 (length m) in
     joined (head ++ size ++ m) a.salt.now
     (joined (head ++ size) m
-    (joined head size first.tagged.ensures (second.absorb.ensures ∙ ap (absorbed first.tagged.result) (number store)))
-    third.absorb2.ensures) c.absorb3.ensures
+    (joined head size first.tagged-a.ensures (second.absorb-b.ensures ∙ ap (absorbed first.tagged-a.result) (number store)))
+    third.absorb-c.ensures) c.absorb.ensures
 
 pub first_input_spec : {M : Type 1} → statement M
 first_input_spec =

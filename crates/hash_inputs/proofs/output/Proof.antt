@@ -8,9 +8,9 @@ use Rattle.hash_inputs.proofs.output.Tie as tie
 
 returns : tie.Need-returns
 returns c =
-    let q = c.before.before in
-    let f = q.before.before in
-    q.squeeze.ensures.0 ∙ ap (λ t. squeezed t (length f.before.before.args.out.now)) f.finish.ensures
+    let q = c in
+    let f = q in
+    q.squeeze.ensures.0 ∙ ap (λ t. squeezed t (length f.args.out.now)) f.finish-f.ensures
 
 pub output_spec : {M : Type 1} → statement M
 output_spec = tie.close (tie.spec (λ c κs. search rules) (λ c κs. search rules) (λ c. search rules) returns)

@@ -9,9 +9,9 @@ use Rattle.hash_inputs.proofs.tagged.Tie as tie
 
 returns : tie.Need-returns
 returns c =
-    let n = c.before.before.before in
-    let a = n.before.before.args in
-    joined (a.tag ∷ []) a.h.now (c.before.absorb.ensures ∙ ap (λ s. absorbed s (a.tag ∷ [])) n.new.ensures) c.absorb2.ensures
+    let n = c in
+    let a = n.args in
+    joined (a.tag ∷ []) a.h.now (c.absorb-a.ensures ∙ ap (λ s. absorbed s (a.tag ∷ [])) n.new.ensures) c.absorb.ensures
 
 pub tagged_spec : {M : Type 1} → statement M
 tagged_spec =
