@@ -1,4 +1,6 @@
 // The input of SHAKE128 (FIPS 202, section 6.2) as a stream: absorb in pieces, finish.
+#![tactic(auto)]
+
 ghost use Rattle.std.specs.Prelude.{◌≡◌, ◌+◌, ◌*◌, ◌<◌, ◌≤◌, length};
 ghost use Rattle.slices.specs.Lists.{part};
 ghost use Rattle.shake.specs.Padding.{rate};

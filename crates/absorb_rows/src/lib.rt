@@ -1,4 +1,6 @@
 // A column of rows absorbed, without a copy.
+#![tactic(auto)]
+
 ghost use Rattle.std.specs.Prelude.{◌≡◌, ◌+◌, ◌*◌, ◌≤◌, length};
 ghost use Rattle.columns.specs.Column.{column_of};
 ghost use Rattle.stream.specs.Stream.{absorbed};

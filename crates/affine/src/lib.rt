@@ -1,4 +1,6 @@
 // The affine transformation of AES's S-box (FIPS 197, 5.1.1), for the cipher and for a party of the circuit, which takes it on shares.
+#![tactic(auto)]
+
 ghost use Rattle.std.specs.Prelude.{◌≡◌, map};
 ghost use Rattle.std.specs.Int.Bits.{bit_xor};
 ghost use Rattle.aes.specs.Aes.{matrix};

@@ -1,4 +1,6 @@
 // Exports for the benchmark in C (bench/run).
+#![tactic(auto)]
+
 ghost use Rattle.std.specs.Prelude.{◌≡◌, length};
 ghost use Rattle.keccak.specs.Keccak.{keccak_f};
 ghost use Rattle.shake.specs.Shake128.{shake128};

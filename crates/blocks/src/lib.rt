@@ -1,4 +1,6 @@
 // Blocks of 16 bytes in AES (FIPS 197): their sums, and a block of a slice.
+#![tactic(auto)]
+
 ghost use Rattle.std.specs.Prelude.{◌≡◌, ◌+◌, ◌*◌, ◌≤◌, length};
 ghost use Rattle.aes.specs.Aes.{add, block};
 

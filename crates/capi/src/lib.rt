@@ -1,4 +1,6 @@
 // The calls for C and Rust: a slice is a pointer and a length, and an answer is one number. include/banquet.h says it to a C programmer.
+#![tactic(auto)]
+
 ghost use Rattle.std.specs.Prelude.{◌≡◌, [], ◌∷◌};
 ghost use Rattle.banquet.specs.Sets.{base_scheme};
 ghost use Rattle.banquet.specs.Calls.{make_public_key, sign, verify, open_execution, verify_opening};

@@ -1,5 +1,7 @@
 // The card program: a card's text comes from standard input, and `accepted`, or `refused` with number and place, goes to standard output. The gate
 // runs it on three texts, as `card`, `card_empty` and `card_line_45`.
+#![tactic(auto)]
+
 ghost use Rattle.std.specs.Prelude.{◌≡◌, suc, length};
 ghost use Rattle.banquet.specs.Shape.{message_limit};
 ghost use Rattle.banquet.specs.Sets.{base};

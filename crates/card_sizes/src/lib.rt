@@ -1,4 +1,6 @@
 // How many lines a card has and how many bytes each stands for, for any parameter set; and the room that the longest card takes.
+#![tactic(auto)]
+
 ghost use Rattle.std.specs.Prelude.{◌≡◌, ◌≤◌, take};
 ghost use Rattle.banquet.specs.Card.{card_sizes};
 ghost use Rattle.sets.specs.Valid.{Valid};

@@ -1,4 +1,6 @@
 // The card: its text is read and checked.
+#![tactic(auto)]
+
 ghost use Rattle.std.specs.Prelude.{◌≡◌, ◌≤◌};
 ghost use Rattle.banquet.specs.Shape.{message_limit};
 ghost use Rattle.banquet.specs.Calls.{checked};

@@ -1,1 +1,3 @@
 // Theorems on card text; specs/ has them.
+#![tactic(auto)]
+

@@ -1,4 +1,6 @@
 // The numbers of an execution among those drawn for all: its second challenge and its hidden party.
+#![tactic(auto)]
+
 ghost use Rattle.std.specs.Prelude.{◌≡◌, ◌+◌, ◌*◌, ◌≤◌, length};
 ghost use Rattle.slices.specs.Numbers.{number_at};
 ghost use Rattle.banquet.specs.Hash.{evaluation_point, party_of};

@@ -1,5 +1,7 @@
 // Whether a key is good for a public key, for any parameter set, and what the S-boxes are given under it, with the inverses. The key schedule's inputs are
 // tested with the rounds'.
+#![tactic(auto)]
+
 ghost use Rattle.std.specs.Prelude.{◌≡◌, length};
 ghost use Rattle.banquet.specs.declared.Answer.TheVariants.{Accepted};
 ghost use Rattle.banquet.specs.Shape.{sboxes, public_key_length};

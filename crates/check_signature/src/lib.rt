@@ -1,4 +1,6 @@
 // The check of a signature, for any parameter set.
+#![tactic(auto)]
+
 ghost use Rattle.std.specs.Prelude.{◌≡◌, [], ◌∷◌, ◌*◌, ◌≤◌, length};
 ghost use Rattle.slices.specs.Lists.{rows as rows_of, same};
 ghost use Rattle.slices.specs.Layout.{total};

@@ -1,4 +1,6 @@
 // AES-128 (FIPS 197), with what its S-boxes are given.
+#![tactic(auto)]
+
 ghost use Rattle.std.specs.Prelude.{◌≡◌, map, ◌<◌, length};
 ghost use Rattle.aes.specs.Aes.{sbox, add, rcon, sub_word, next_key, key_input, aes, sbox_inputs};
 

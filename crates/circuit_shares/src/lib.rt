@@ -1,4 +1,6 @@
 // A party's own shares of key and inverses, and what it works out of them: the output's share and the S-boxes' input shares.
+#![tactic(auto)]
+
 ghost use Rattle.std.specs.Prelude.{◌≡◌, length};
 ghost use Rattle.slices.specs.Layout.{total};
 ghost use Rattle.poly.specs.Index.{at};

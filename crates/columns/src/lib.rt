@@ -1,4 +1,6 @@
 // Columns of rows that stand one after the other.
+#![tactic(auto)]
+
 ghost use Rattle.std.specs.Prelude.{◌≡◌, ◌+◌, ◌*◌, ◌≤◌, length};
 ghost use Rattle.columns.specs.Column.{column_of};
 

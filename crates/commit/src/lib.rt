@@ -1,5 +1,7 @@
 // What a signature's executions are bound to before the first challenge, as the holder of the key works it out: each execution's offsets of key and
 // inverses into its frame, and its part of h1.
+#![tactic(auto)]
+
 ghost use Rattle.std.specs.Prelude.{◌≡◌, ◌*◌, length, take};
 ghost use Rattle.slices.specs.Lists.{rows, row, part, put};
 ghost use Rattle.slices.specs.Layout.{total};

@@ -1,4 +1,6 @@
 // The commitments in the check of an opening, for any parameter set: each shown party's worked out and compared.
+#![tactic(auto)]
+
 ghost use Rattle.std.specs.Prelude.{◌≡◌, ◌||◌, ◌*◌, ◌≤◌, eqb, length};
 ghost use Rattle.slices.specs.Lists.{rows, row, same};
 ghost use Rattle.slices.specs.Layout.{total};

@@ -1,4 +1,6 @@
 // Rows of two slices compared.
+#![tactic(auto)]
+
 ghost use Rattle.std.specs.Prelude.{◌≡◌, ◌||◌, ◌*◌, eqb, length};
 ghost use Rattle.slices.specs.Lists.{row, same};
 ghost use Rattle.compare.specs.Lowest.{lowest};

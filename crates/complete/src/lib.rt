@@ -1,4 +1,6 @@
 // Rows of which one is not known, but the sum of all is: "The checker works hidden shares out as sum minus the rest".
+#![tactic(auto)]
+
 ghost use Rattle.std.specs.Prelude.{◌≡◌, ◌*◌, ◌<◌, length};
 ghost use Rattle.slices.specs.Lists.{rows as rows_of, row};
 ghost use Rattle.complete.specs.Complete.{completed_row};

@@ -1,4 +1,6 @@
 // Dot products in the field of X^bits + low: of elements, and, by tables, of fixed coefficients with lifted bytes.
+#![tactic(auto)]
+
 ghost use Rattle.std.specs.Prelude.{◌≡◌, ◌*◌, ◌+◌, ◌/◌, ◌%◌, ◌≤◌, ◌<◌, length, get_or};
 ghost use Rattle.std.specs.Int.Bits.{bit_xor};
 ghost use Rattle.field.specs.Fits.{Fits};

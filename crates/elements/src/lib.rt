@@ -1,4 +1,6 @@
 // Numbers that stand one after the other in a byte slice, each of w bytes, low byte first: wide elements.
+#![tactic(auto)]
+
 ghost use Rattle.std.specs.Prelude.{◌≡◌, ◌*◌, ◌≤◌, length, get_or};
 ghost use Rattle.slices.specs.Lists.{tab};
 ghost use Rattle.slices.specs.Numbers.{number_at, numbers};

@@ -1,4 +1,6 @@
 // Bytes are written as lines of text in hexadecimal. A form is how many bytes each line stands for.
+#![tactic(auto)]
+
 ghost use Rattle.std.specs.Prelude.{◌≡◌, ◌+◌, ◌*◌, length};
 ghost use Rattle.slices.specs.Layout.{total};
 ghost use Rattle.banquet.specs.Card.{encoded_lines};

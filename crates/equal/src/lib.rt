@@ -1,4 +1,6 @@
 // Byte slices are compared.
+#![tactic(auto)]
+
 ghost use Rattle.std.specs.Prelude.{◌≡◌};
 ghost use Rattle.slices.specs.Lists.{same};
 

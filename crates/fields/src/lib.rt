@@ -1,4 +1,6 @@
 // Fields that stand one after the other in a slice, told apart by their sizes.
+#![tactic(auto)]
+
 ghost use Rattle.std.specs.Prelude.{◌≡◌, ◌≤◌, ◌<◌, ◌^◌, length, take};
 ghost use Rattle.slices.specs.Layout.{field as field_of, total};
 

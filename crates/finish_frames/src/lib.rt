@@ -1,4 +1,6 @@
 // What a signature's executions show of the tree and of the hidden party, each in its frame.
+#![tactic(auto)]
+
 ghost use Rattle.std.specs.Prelude.{◌≡◌, ◌*◌, ◌<◌, length};
 ghost use Rattle.slices.specs.Lists.{rows, row};
 ghost use Rattle.slices.specs.Numbers.{number_at};

@@ -1,4 +1,6 @@
 // An execution's part in the check of a signature, for any parameter set: its parties as the frame shows them, and what h1 and h3 bind of them.
+#![tactic(auto)]
+
 ghost use Rattle.std.specs.Prelude.{◌≡◌, ◌++◌, ◌-◌, ◌*◌, ◌<◌, length};
 ghost use Rattle.slices.specs.Lists.{rows as rows_of, row};
 ghost use Rattle.slices.specs.Layout.{total};

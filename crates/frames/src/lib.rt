@@ -1,4 +1,6 @@
 // A signature's frames: the sizes of their parts, the length of one and of the whole, where its parts lie, and frame e as a part of the signature itself.
+#![tactic(auto)]
+
 ghost use Rattle.std.specs.Prelude.{◌≡◌, ◌<◌, ◌≤◌, length, take};
 ghost use Rattle.slices.specs.Layout.{total};
 ghost use Rattle.banquet.specs.Shape.{frame_sizes, signature_length};

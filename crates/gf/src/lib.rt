@@ -1,4 +1,6 @@
 // Products in the fields of X^w + low. Elements of wide fields travel as u64, so that all widths share this code.
+#![tactic(auto)]
+
 ghost use Rattle.std.specs.Prelude.{◌≡◌, ◌^◌, ◌≤◌, ◌<◌};
 ghost use Rattle.field.specs.Ring.{mul as product, xtime};
 ghost use Rattle.field.specs.Fits.{Fits};

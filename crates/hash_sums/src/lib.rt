@@ -1,4 +1,6 @@
 // The sum of the hashes of the parties' seeds.
+#![tactic(auto)]
+
 ghost use Rattle.std.specs.Prelude.{◌≡◌, ◌*◌, ◌≤◌, ◌<◌, length};
 ghost use Rattle.slices.specs.Lists.{row, zip_xor, sum_xor};
 ghost use Rattle.party.specs.Party.{party_hash};

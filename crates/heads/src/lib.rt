@@ -1,4 +1,6 @@
 // The head of a signature: "salt, h1, h3 (32 each)". Its parts, as parts of the signature itself, and how it is written.
+#![tactic(auto)]
+
 ghost use Rattle.std.specs.Prelude.{◌≡◌, [], ◌∷◌, ◌++◌, ◌≤◌, length, drop};
 ghost use Rattle.slices.specs.Layout.{layout};
 ghost use Rattle.banquet.specs.Shape.{head_length};

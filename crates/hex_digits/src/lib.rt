@@ -1,4 +1,6 @@
 // Reads and writes "lower-case hexadecimal", the card's text.
+#![tactic(auto)]
+
 ghost use Rattle.std.specs.Prelude.{◌≡◌, ◌*◌, ◌<◌, length};
 ghost use Rattle.banquet.specs.Card.{symbol_of, value_of, decoded, digit_of, encoded};
 ghost use Rattle.hex_digits.specs.Hex.{half};

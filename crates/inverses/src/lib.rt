@@ -1,4 +1,6 @@
 // Inverses of bytes in the AES field, from their table of 256 entries.
+#![tactic(auto)]
+
 ghost use Rattle.std.specs.Prelude.{◌≡◌};
 ghost use Rattle.field.specs.Byte.{inverse8};
 

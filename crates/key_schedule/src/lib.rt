@@ -1,4 +1,6 @@
 // Key expansion in AES (FIPS 197, 5.2), a round key at a time, for the cipher and for a party of the circuit, which takes it on shares.
+#![tactic(auto)]
+
 ghost use Rattle.std.specs.Prelude.{◌≡◌, [], ◌∷◌, ◌<◌, get_or};
 ghost use Rattle.aes.specs.Aes.{add, round_constants, next_key, key_input};
 

@@ -1,5 +1,7 @@
 // Lagrange's values in the field of X^bits + low, for the points 0, 1, ..: by products of x - i before and after each point and constant
 // weights, with no division, so that x may be a point.
+#![tactic(auto)]
+
 ghost use Rattle.std.specs.Prelude.{◌≡◌, length};
 ghost use Rattle.slices.specs.Lists.{tab};
 ghost use Rattle.field.specs.Wide.{Element};

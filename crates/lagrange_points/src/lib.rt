@@ -1,4 +1,6 @@
 // Lagrange's values for the points 0 to 20 and 0 to 40, in the fields of 2^32 and 2^48 elements.
+#![tactic(auto)]
+
 ghost use Rattle.std.specs.Prelude.{◌≡◌, ◌<◌, ◌^◌, length};
 ghost use Rattle.slices.specs.Lists.{tab};
 ghost use Rattle.lagrange.specs.Values.{lagrange_value};

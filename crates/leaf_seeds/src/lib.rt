@@ -1,4 +1,6 @@
 // The seeds of an execution's parties, from its root seed, with room for those of the largest set.
+#![tactic(auto)]
+
 ghost use Rattle.std.specs.Prelude.{◌≡◌, ◌++◌, ◌-◌, ◌*◌, ◌^◌, length, replicate};
 ghost use Rattle.shake.specs.Shake128.{shake128};
 ghost use Rattle.banquet.specs.Tree.{node_seeds, leaves};

@@ -1,4 +1,6 @@
 // The refusals of the calls that go by numbers alone, for any parameter set: the lengths of what a call is lent, and the three numbers of an opening.
+#![tactic(auto)]
+
 ghost use Rattle.std.specs.Prelude.{◌≡◌};
 ghost use Rattle.banquet.specs.declared.Answer.TheVariants.{Accepted};
 ghost use Rattle.banquet.specs.Answer.{in_order};

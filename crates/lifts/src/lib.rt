@@ -1,4 +1,6 @@
 // The lifts of bytes into the wide fields: the table of 256 entries, and the powers of y.
+#![tactic(auto)]
+
 ghost use Rattle.std.specs.Prelude.{◌≡◌};
 ghost use Rattle.field.specs.Wide32.{lift32, powers32};
 ghost use Rattle.wide48.specs.Wide48.{powers48};

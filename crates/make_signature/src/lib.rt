@@ -1,4 +1,6 @@
 // A signature made by the holder of the key, for any parameter set: four passes over its executions, with a hash after each of the first three.
+#![tactic(auto)]
+
 ghost use Rattle.std.specs.Prelude.{◌≡◌, ◌∷◌, ◌++◌, ◌+◌, ◌*◌, ◌≤◌, length, take};
 ghost use Rattle.slices.specs.Lists.{rows, row, part, put};
 ghost use Rattle.slices.specs.Layout.{total};

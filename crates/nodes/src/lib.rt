@@ -1,4 +1,6 @@
 // The seeds of the two nodes below a node of the tree.
+#![tactic(auto)]
+
 ghost use Rattle.std.specs.Prelude.{◌≡◌, length};
 ghost use Rattle.shake.specs.Shake128.{shake128};
 ghost use Rattle.banquet.specs.Hash.{children as children_of};

@@ -1,4 +1,6 @@
 // Numbers in byte slices, low byte first.
+#![tactic(auto)]
+
 ghost use Rattle.std.specs.Prelude.{◌≡◌, [], ◌∷◌, ◌+◌, ◌≤◌, length};
 ghost use Rattle.slices.specs.Lists.{part, put};
 ghost use Rattle.slices.specs.Numbers.{number, bytes_of};

@@ -1,4 +1,6 @@
 // The product offsets of a signature's executions, each into its frame, under the first challenges.
+#![tactic(auto)]
+
 ghost use Rattle.std.specs.Prelude.{◌≡◌, ◌*◌, length};
 ghost use Rattle.slices.specs.Lists.{rows, row};
 ghost use Rattle.slices.specs.Layout.{total};

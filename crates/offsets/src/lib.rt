@@ -1,4 +1,6 @@
 // The product offsets: P at the points 20 to 40, with the tapes' shares added.
+#![tactic(auto)]
+
 ghost use Rattle.std.specs.Prelude.{◌≡◌, ◌*◌, length, get_or};
 ghost use Rattle.std.specs.Int.Bits.{bit_xor};
 ghost use Rattle.slices.specs.Lists.{tab, row};

@@ -1,4 +1,6 @@
 // The call that opens an execution, for any parameter set.
+#![tactic(auto)]
+
 ghost use Rattle.std.specs.Prelude.{◌≡◌, ◌*◌, ◌^◌, ◌<◌, ◌≤◌, length};
 ghost use Rattle.banquet.specs.declared.Answer.TheVariants.{Accepted};
 ghost use Rattle.banquet.specs.Shape.{work_length, opening_length};

@@ -1,5 +1,7 @@
 // What is opened of a signature's executions under the second challenges, as the holder of the key works it out: the sums c, a and b of each into its
 // frame, and its part of h3.
+#![tactic(auto)]
+
 ghost use Rattle.std.specs.Prelude.{◌≡◌, ◌*◌, ◌^◌, ◌<◌, length};
 ghost use Rattle.slices.specs.Lists.{rows as rows_of, row};
 ghost use Rattle.slices.specs.Layout.{total};

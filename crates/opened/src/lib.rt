@@ -1,4 +1,6 @@
 // The numbers of one execution: what the tables give for its bytes, and sums.
+#![tactic(auto)]
+
 ghost use Rattle.std.specs.Prelude.{◌≡◌, length, get_or};
 ghost use Rattle.slices.specs.Lists.{tab};
 ghost use Rattle.banquet.specs.Shape.{sboxes};

@@ -1,4 +1,6 @@
 // The sizes of an opening, which follow from a parameter set.
+#![tactic(auto)]
+
 ghost use Rattle.std.specs.Prelude.{◌≡◌, ◌≤◌};
 ghost use Rattle.slices.specs.Layout.{total};
 ghost use Rattle.banquet.specs.Shape.{transcript_sizes, opening_length};

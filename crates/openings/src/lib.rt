@@ -1,4 +1,6 @@
 // Two of the five calls, for document 01's set: "open one execution under given draws; check such an opening".
+#![tactic(auto)]
+
 ghost use Rattle.std.specs.Prelude.{◌≡◌};
 ghost use Rattle.banquet.specs.Sets.{base_scheme};
 ghost use Rattle.banquet.specs.Calls.{checked, made, open_execution, verify_opening};

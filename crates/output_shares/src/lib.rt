@@ -1,4 +1,6 @@
 // The output shares of all parties of an execution, from their tapes.
+#![tactic(auto)]
+
 ghost use Rattle.std.specs.Prelude.{◌≡◌, ◌*◌, length};
 ghost use Rattle.slices.specs.Lists.{rows, row};
 ghost use Rattle.slices.specs.Layout.{total};

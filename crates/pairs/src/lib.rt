@@ -1,4 +1,6 @@
 // Public keys for pairs of key and plaintext, a pair a line, for document 01's set.
+#![tactic(auto)]
+
 ghost use Rattle.std.specs.Prelude.{◌≡◌, ◌++◌, ◌≤◌, length, drop};
 ghost use Rattle.banquet.specs.Calls.{written};
 ghost use Rattle.banquet.specs.Sets.{base_scheme};

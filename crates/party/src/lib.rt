@@ -1,4 +1,6 @@
 // Hashes of the parties' seeds, which are tapes or commitments, one row for each party.
+#![tactic(auto)]
+
 ghost use Rattle.std.specs.Prelude.{◌≡◌, ◌*◌, ◌≤◌, length};
 ghost use Rattle.slices.specs.Lists.{rows as rows_of, row};
 ghost use Rattle.party.specs.Party.{party_hash};

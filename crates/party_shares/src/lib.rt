@@ -1,4 +1,6 @@
 // A party's shares: from its tape those of the output, of c, a and b.
+#![tactic(auto)]
+
 ghost use Rattle.std.specs.Prelude.{◌≡◌, ◌*◌, ◌++◌, length};
 ghost use Rattle.slices.specs.Layout.{total};
 ghost use Rattle.slices.specs.Numbers.{numbers};

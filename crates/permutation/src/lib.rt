@@ -1,4 +1,6 @@
 // Keccak-f[1600] of FIPS 202, section 3.
+#![tactic(auto)]
+
 mod round;
 
 ghost use Rattle.std.specs.Prelude.{◌≡◌, ◌+◌, ◌≤◌, get_or};

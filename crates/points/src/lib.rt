@@ -1,4 +1,6 @@
 // Lagrange's values at a point, and their tables.
+#![tactic(auto)]
+
 ghost use Rattle.std.specs.Prelude.{◌≡◌, ◌*◌, ◌^◌, ◌<◌, length};
 ghost use Rattle.slices.specs.Lists.{tab};
 ghost use Rattle.sets.specs.Valid.{Valid};

@@ -1,4 +1,6 @@
 // What the card program prints of a text, for document 01's set.
+#![tactic(auto)]
+
 ghost use Rattle.std.specs.Prelude.{◌≡◌};
 ghost use Rattle.banquet.specs.Card.{card_output};
 ghost use Rattle.banquet.specs.Sets.{base_scheme};

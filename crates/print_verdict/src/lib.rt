@@ -1,4 +1,6 @@
 // What is printed of an answer: "`accepted`, or `refused`, number, place, with single spaces and a line end".
+#![tactic(auto)]
+
 ghost use Rattle.std.specs.Prelude.{◌≡◌, ◌++◌, ◌+◌, ◌≤◌, length, drop};
 ghost use Rattle.slices.specs.Lists.{put};
 ghost use Rattle.banquet.specs.Card.{decimal as decimal_of, refusal_line, printed};

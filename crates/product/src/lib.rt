@@ -1,4 +1,6 @@
 // The product check of an execution, from the bytes of c, a and b.
+#![tactic(auto)]
+
 ghost use Rattle.std.specs.Prelude.{◌≡◌, ◌*◌, length};
 ghost use Rattle.sets.specs.Valid.{Valid};
 ghost use Rattle.forms.specs.Sums.{bytes_product_holds};

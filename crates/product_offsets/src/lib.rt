@@ -1,4 +1,6 @@
 // The bytes of an execution's product offsets.
+#![tactic(auto)]
+
 ghost use Rattle.std.specs.Prelude.{◌≡◌, ◌*◌, length};
 ghost use Rattle.slices.specs.Layout.{total};
 ghost use Rattle.banquet.specs.Shape.{tape_sizes, first_challenge_length, product_points};

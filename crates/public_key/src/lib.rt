@@ -1,4 +1,6 @@
 // The first of the five calls: "make a public key (from key and plaintext)".
+#![tactic(auto)]
+
 ghost use Rattle.std.specs.Prelude.{◌≡◌};
 ghost use Rattle.banquet.specs.Sets.{base_scheme};
 ghost use Rattle.banquet.specs.Calls.{written, make_public_key};

@@ -1,6 +1,8 @@
 // Makes public keys: from standard input comes in each line a key and a plaintext, 32 digits of hexadecimal each; for each line the public key goes to
 // standard output, or `refused` with number and place. It ends at a line that breaks this form, which is refused as 18 with its number, and where a
 // read or a write fails.
+#![tactic(auto)]
+
 
 // Answers line n, and returns whether another may follow.
 fn answer(pair: &[u8], n: u32) -> bool {

@@ -1,4 +1,6 @@
 // Cards for requests to sign.
+#![tactic(auto)]
+
 ghost use Rattle.std.specs.Prelude.{◌≡◌, ◌++◌, ◌≤◌, length, drop, replicate};
 ghost use Rattle.banquet.specs.Shape.{message_limit, signature_length};
 ghost use Rattle.banquet.specs.Sets.{base, scheme_of, base_scheme};

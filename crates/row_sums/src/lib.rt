@@ -1,4 +1,6 @@
 // The sum of rows that stand one after the other.
+#![tactic(auto)]
+
 ghost use Rattle.std.specs.Prelude.{◌≡◌, ◌*◌, ◌<◌, length};
 ghost use Rattle.slices.specs.Lists.{row, sum_xor};
 

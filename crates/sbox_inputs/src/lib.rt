@@ -1,4 +1,6 @@
 // What the S-boxes are given: the inverses of all of it, and the first byte that has none.
+#![tactic(auto)]
+
 ghost use Rattle.std.specs.Prelude.{◌≡◌, map};
 ghost use Rattle.field.specs.Byte.{inverse8};
 ghost use Rattle.aes.specs.Aes.{first_zero};

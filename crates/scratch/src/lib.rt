@@ -1,4 +1,6 @@
 // The work slice's front: scratch while a call runs, and zero when it returns.
+#![tactic(auto)]
+
 ghost use Rattle.std.specs.Prelude.{◌≡◌, ◌≤◌, length};
 ghost use Rattle.banquet.specs.Shape.{work_length};
 ghost use Rattle.banquet.specs.Answer.{cleared};

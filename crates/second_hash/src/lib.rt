@@ -1,4 +1,6 @@
 // h2 of a signature, which doesn't carry it, from its own h1 and product offsets.
+#![tactic(auto)]
+
 ghost use Rattle.std.specs.Prelude.{◌≡◌, length};
 ghost use Rattle.slices.specs.Lists.{rows};
 ghost use Rattle.stream.specs.Stream.{absorbed};

@@ -1,4 +1,6 @@
 // The shares in the check of an opening, for any parameter set: each shown party's worked out and compared, and the sums of all.
+#![tactic(auto)]
+
 ghost use Rattle.std.specs.Prelude.{◌≡◌, ◌++◌, ◌*◌, ◌≤◌, length};
 ghost use Rattle.slices.specs.Lists.{rows as rows_of, row};
 ghost use Rattle.slices.specs.Layout.{total};

@@ -1,4 +1,6 @@
 // One party's walk through AES: from its shares of the key and of the inverses to its shares of the S-boxes' inputs and of the output.
+#![tactic(auto)]
+
 ghost use Rattle.std.specs.Prelude.{◌≡◌, ◌++◌, ◌<◌, ◌≤◌, length, drop};
 ghost use Rattle.slices.specs.Lists.{rows};
 ghost use Rattle.aes.specs.Aes.{add, word, rcon, next_key, key_inputs};

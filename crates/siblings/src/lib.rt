@@ -1,4 +1,6 @@
 // The seeds of the siblings on the way to a hidden leaf, which an opening shows.
+#![tactic(auto)]
+
 ghost use Rattle.std.specs.Prelude.{◌≡◌, ◌+◌, ◌*◌, ◌^◌, ◌≤◌, length};
 ghost use Rattle.shake.specs.Shake128.{shake128};
 ghost use Rattle.banquet.specs.Tree.{sibling_seeds};

@@ -1,5 +1,7 @@
 // Signs: key, public key, message, salt and root seeds come from standard input, in hexadecimal, a line each; the card goes to standard output, or
 // `refused` with number and place. Where a read fails nothing is printed.
+#![tactic(auto)]
+
 ghost use Rattle.std.specs.Prelude.{◌≡◌, length};
 ghost use Rattle.banquet.specs.Shape.{message_limit};
 ghost use Rattle.banquet.specs.Sets.{base};

@@ -1,4 +1,6 @@
 // The call that signs a message, for any parameter set.
+#![tactic(auto)]
+
 ghost use Rattle.std.specs.Prelude.{◌≡◌, ◌≤◌, length};
 ghost use Rattle.banquet.specs.declared.Answer.TheVariants.{Accepted};
 ghost use Rattle.banquet.specs.Shape.{work_length, signature_length};

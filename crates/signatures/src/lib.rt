@@ -1,4 +1,6 @@
 // Two of the five calls, for document 01's set: "seal; check a seal".
+#![tactic(auto)]
+
 ghost use Rattle.std.specs.Prelude.{◌≡◌};
 ghost use Rattle.banquet.specs.Sets.{base_scheme};
 ghost use Rattle.banquet.specs.Calls.{checked, made, sign as sign_of, verify as verify_of};

@@ -1,4 +1,6 @@
 // One execution's offsets, as the holder of the key works them out.
+#![tactic(auto)]
+
 ghost use Rattle.std.specs.Prelude.{◌≡◌, ◌*◌, ◌≤◌, length};
 ghost use Rattle.slices.specs.Lists.{zip_xor, sum_xor, row};
 ghost use Rattle.slices.specs.Layout.{total};

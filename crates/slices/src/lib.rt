@@ -1,4 +1,6 @@
 // Byte slices: set to zero, and copied.
+#![tactic(auto)]
+
 ghost use Rattle.std.specs.Prelude.{◌≡◌, ◌+◌, ◌≤◌, length, replicate};
 ghost use Rattle.slices.specs.Lists.{put};
 

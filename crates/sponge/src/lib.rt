@@ -1,4 +1,6 @@
 // SHAKE128 of FIPS 202, section 6.2, of one slice.
+#![tactic(auto)]
+
 ghost use Rattle.std.specs.Prelude.{◌≡◌, length};
 ghost use Rattle.shake.specs.Shake128.{shake128};
 

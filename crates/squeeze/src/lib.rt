@@ -1,4 +1,6 @@
 // The output of SHAKE128 (FIPS 202, section 6.2) as a stream: squeeze in pieces.
+#![tactic(auto)]
+
 ghost use Rattle.std.specs.Prelude.{◌≡◌, ◌+◌, ◌*◌, ◌<◌, ◌≤◌, length};
 ghost use Rattle.slices.specs.Lists.{put};
 ghost use Rattle.shake.specs.Padding.{rate};

@@ -1,4 +1,6 @@
 // The values of S_j and T_j at a point.
+#![tactic(auto)]
+
 ghost use Rattle.std.specs.Prelude.{◌≡◌, ◌+◌, ◌*◌, length, get_or};
 ghost use Rattle.slices.specs.Lists.{tab};
 ghost use Rattle.sets.specs.Valid.{Valid};

@@ -1,4 +1,6 @@
 // What an opening states: each party's shares in a row.
+#![tactic(auto)]
+
 ghost use Rattle.std.specs.Prelude.{◌≡◌, ◌+◌, ◌*◌, ◌^◌, ◌<◌, ◌≤◌, length, get_or, take};
 ghost use Rattle.slices.specs.Lists.{rows as rows_of, row, put};
 ghost use Rattle.slices.specs.Layout.{total, field};

@@ -1,4 +1,6 @@
 // The steps of a round of AES (FIPS 197, 5.1), for the cipher and for a party of the circuit, which takes them on shares.
+#![tactic(auto)]
+
 ghost use Rattle.std.specs.Prelude.{◌≡◌, ◌<◌};
 ghost use Rattle.field.specs.Byte.{mul8};
 ghost use Rattle.aes.specs.Aes.{add, shift_rows, mix_columns};

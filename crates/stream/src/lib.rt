@@ -1,4 +1,6 @@
 // The state of a sponge that is taken a byte at a time, for SHAKE128 of FIPS 202, section 6.2, as a stream.
+#![tactic(auto)]
+
 ghost use Rattle.std.specs.Prelude.{◌≡◌, ◌-◌, ◌/◌, ◌%◌, ◌≤◌, min};
 ghost use Rattle.shake.specs.Padding.{rate};
 ghost use Rattle.stream.specs.Stream.{empty};

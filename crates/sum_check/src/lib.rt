@@ -1,4 +1,6 @@
 // The end of an opening's check, which looks at the sum of the stated rows alone.
+#![tactic(auto)]
+
 ghost use Rattle.std.specs.Prelude.{◌≡◌, ◌*◌, length};
 ghost use Rattle.slices.specs.Lists.{row, sum_xor};
 ghost use Rattle.slices.specs.Layout.{total};

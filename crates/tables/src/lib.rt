@@ -1,4 +1,6 @@
 // For fixed coefficients the tables of their products with lifted bytes, in the field of X^bits + low.
+#![tactic(auto)]
+
 ghost use Rattle.std.specs.Prelude.{◌≡◌, map, ◌+◌, ◌*◌, ◌≤◌, length, get_or, take, drop};
 ghost use Rattle.slices.specs.Lists.{put, rows as stacked};
 ghost use Rattle.field.specs.Linear.{combine};

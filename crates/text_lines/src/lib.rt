@@ -1,4 +1,6 @@
 // Lines of text in hexadecimal: their form is checked, and bytes are read from them. A form is how many bytes each line stands for.
+#![tactic(auto)]
+
 ghost use Rattle.std.specs.Prelude.{◌≡◌, ◌+◌, ◌<◌, ◌≤◌, length, drop};
 ghost use Rattle.slices.specs.Layout.{total};
 ghost use Rattle.banquet.specs.declared.Answer.TheVariants.{Accepted};

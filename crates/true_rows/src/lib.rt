@@ -1,5 +1,7 @@
 // What the holder of the key knows at the points 20 to 40: the rows of the S-boxes' inputs and of their inverses. They depend on the key and the
 // public key alone, so that one signature's executions share them.
+#![tactic(auto)]
+
 ghost use Rattle.std.specs.Prelude.{◌≡◌, ◌+◌, ◌*◌, ◌^◌, ◌<◌, length};
 ghost use Rattle.slices.specs.Lists.{tab};
 ghost use Rattle.banquet.specs.Shape.{sboxes};

@@ -1,6 +1,8 @@
 // Reads lines of a key and a plaintext in hexadecimal, and writes for each the ciphertext, what the S-boxes are given (the key schedule's words after
 // RotWord(), and then the states at the rounds' starts), and the first S-box that is given zero, 200 where there is none. vectors/aes.py says where
 // the lines are from.
+#![tactic(auto)]
+
 ghost use Rattle.std.specs.Prelude.{◌≡◌, ◌≤◌, length};
 
 use libc::{STDIN_FILENO, STDOUT_FILENO};

@@ -12,6 +12,8 @@
 // opening is checked, i where nothing is called. Before a call output and work are ee throughout. After it the file is added to what is to be the
 // file's of the output. Written are the answer's number and place, where the work's zeros end, where its ee after them end, and the same of the output.
 // vectors/calls.py says where the lines are from.
+#![tactic(auto)]
+
 ghost use Rattle.std.specs.Prelude.{◌≡◌, ◌+◌, ◌*◌, ◌≤◌, length};
 
 use banquet::Answer;

@@ -7,6 +7,8 @@
 // r  What `sign_card` writes of the text; of a card the first 120 bytes.
 // p  What `public_keys` writes of the text as line 300.
 // vectors/card.py says where the lines are from.
+#![tactic(auto)]
+
 ghost use Rattle.std.specs.Prelude.{◌≡◌, ◌+◌, ◌*◌, ◌≤◌, length};
 
 use libc::{STDIN_FILENO, STDOUT_FILENO};

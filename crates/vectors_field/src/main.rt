@@ -1,5 +1,7 @@
 // Runs the functions of the wide fields and writes what they answer, a number in hexadecimal a line: products, inverses and lifts of bytes, Lagrange's
 // values at x, and dot products with them. The file stdout is written by vectors/field.py.
+#![tactic(auto)]
+
 ghost use Rattle.std.specs.Prelude.{◌≡◌, ◌<◌, ◌^◌, length};
 
 use libc::STDOUT_FILENO;

@@ -1,5 +1,7 @@
 // Runs SHAKE128 on messages of several lengths, absorbed and squeezed in pieces. A line has the message's length, that of the pieces, that of
 // the output, and the output in hex. At the end stands a published example. The file stdout is written by vectors/shake.py.
+#![tactic(auto)]
+
 ghost use Rattle.std.specs.Prelude.{◌≡◌, ◌*◌, ◌<◌, ◌≤◌, length};
 
 use libc::STDOUT_FILENO;

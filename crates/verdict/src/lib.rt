@@ -1,4 +1,6 @@
 // What is told of an answer: its number and its place, apart and as one number.
+#![tactic(auto)]
+
 ghost use Rattle.std.specs.Prelude.{◌≡◌};
 ghost use Rattle.banquet.specs.Answer.{verdict, verdict_of};
 ghost use Rattle.verdict.specs.Code.{code_of};

@@ -1,4 +1,6 @@
 // A card is written as text.
+#![tactic(auto)]
+
 ghost use Rattle.std.specs.Prelude.{◌≡◌, ◌++◌, ◌+◌, ◌≤◌, length, take, drop};
 ghost use Rattle.banquet.specs.Shape.{message_limit, public_key_length, signature_length};
 ghost use Rattle.banquet.specs.Card.{card_text};

@@ -1,5 +1,7 @@
 // An opening written out, field by field: where a field begins follows from the sizes of a transcript's fields, where a share stands in a party's row
 // from the sizes of that.
+#![tactic(auto)]
+
 ghost use Rattle.std.specs.Prelude.{◌≡◌, ◌+◌, ◌*◌, ◌^◌, ◌<◌, ◌≤◌, length, get_or, take};
 ghost use Rattle.slices.specs.Lists.{put};
 ghost use Rattle.slices.specs.Layout.{total};

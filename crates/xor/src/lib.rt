@@ -1,4 +1,6 @@
 // Byte slices are added.
+#![tactic(auto)]
+
 ghost use Rattle.std.specs.Prelude.{◌≡◌, length};
 ghost use Rattle.slices.specs.Lists.{zip_xor};
 

@@ -9,7 +9,7 @@ use Rattle.verdict.proofs.code.Tie as tie
 
 returns : tie.Need-returns
 unfolding code_of
-returns c = ap (λ (v : Verdict). v.number * 65536 + v.place) c.before.before.verdict.ensures
+returns c = ap (λ (v : Verdict). v.number * 65536 + v.place) c.verdict-told.ensures
 
 pub code_spec : {M : Type 1} → statement M
 code_spec =
