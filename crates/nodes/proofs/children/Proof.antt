@@ -10,14 +10,14 @@ use Rattle.nodes.proofs.children.Tie as tie
 returns : tie.Need-returns
 unfolding children
 returns c =
-    let seed = c.before.before.before.before.before in
-    let salt = seed.before.before.before in
-    let store = salt.before.before.before in
-    let s = store.before.before.before.before in
+    let seed = c in
+    let salt = seed in
+    let store = salt in
+    let s = store in
     let a = s.args in
-    c.before.digest.ensures
+    c.digest.ensures
     ∙ ap (λ m. shake128 m 32)
-    (buffer a.e a.node a.salt.now a.seed.now s.requires store.store.ensures salt.copy_at.ensures seed.copy-at2.ensures)
+    (buffer a.e a.node a.salt.now a.seed.now s.requires store.store.ensures salt.copy_at.ensures seed.copy_at-2.ensures)
 
 pub children_spec : {M : Type 1} → statement M
 children_spec =
