@@ -18,7 +18,6 @@ use Rattle.banquet.specs.Hash.{tape}
 use Rattle.banquet.specs.Execution.{challenge}
 use Rattle.banquet.specs.Key.{front_of, ciphertext_of}
 use Rattle.banquet.specs.Signature.{frame_part}
-use Rattle.sets.specs.Valid.{Valid}
 use Rattle.sets.specs.Bounds.{row_sizes}
 use Rattle.forms.specs.Party.{committed, share_row}
 use Rattle.frame_hashes.specs.Linear.{layout_fields}

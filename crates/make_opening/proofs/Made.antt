@@ -1,8 +1,8 @@
 -- What the offsets and the rows of shares are worked out to is what the opening is made of. Assumes nothing.
-use mathlib.Core.Path.{◌≡◌, refl, sym, ap, ◌∙◌}
+use mathlib.Core.Path.{◌≡◌, refl, ap, ◌∙◌}
 use mathlib.Core.List.{List}
 use Prim.Native.Nat.{ℕ, ◌<◌}
-use lib.ListN.{length, take}
+use lib.ListN.{length}
 use Rattle.slices.specs.Lists.{rows, row, zip_xor, sum_xor}
 use Rattle.shake.specs.Shake128.{shake128}
 use Rattle.banquet.specs.declared.Shape.{Shape}

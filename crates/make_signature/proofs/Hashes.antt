@@ -1,12 +1,12 @@
 -- What the passes absorb is what h1, h2 and h3 bind, and what they draw are the challenges. Assumes nothing.
 use mathlib.Core.Path.{◌≡◌, refl, ap, ap₂, fun_ext, ◌∙◌}
-use mathlib.Core.List.{List, ◌∷◌, ◌++◌}
-use Prim.Native.Nat.{ℕ, ◌+◌, ◌-◌, ◌*◌}
+use mathlib.Core.List.{List, ◌∷◌}
+use Prim.Native.Nat.{ℕ, ◌+◌, ◌*◌}
 use lib.Dec.{lit<}
 use lib.ListN.{length}
 use Rattle.slices.specs.Lists.{rows, row, part, put}
 use Rattle.slices.specs.Bytes.{Bytes, cons_bytes, append_bytes, rows_bytes}
-use Rattle.slices.specs.Numbers.{number_at, bytes_of, bytes_of_bytes}
+use Rattle.slices.specs.Numbers.{number_at, bytes_of_bytes}
 use Rattle.slices.specs.Layout.{total}
 use Rattle.absorb_rows.proofs.Laws.{hashed}
 use Rattle.shake.specs.Shake128.{shake128}

@@ -4,10 +4,9 @@ use mathlib.Core.List.{List, ◌∷◌, ◌++◌}
 use Prim.Native.Nat.{ℕ, ◌+◌, ◌-◌}
 use native.Mathlib.Numerals.{add-one}
 use lib.Dec.{lit<}
-use lib.ListN.{take, drop}
 use Rattle.slices.specs.Lists.{rows}
 use Rattle.slices.specs.Bytes.{Bytes, Sized, cons_bytes, append_bytes, rows_bytes}
-use Rattle.slices.specs.Layout.{field, field_bytes}
+use Rattle.slices.specs.Layout.{field_bytes}
 use Rattle.shake.specs.Laws.{sized_shake}
 use Rattle.stream.specs.declared.Sponge.{Sponge}
 use Rattle.stream.specs.Stream.{empty, absorbed, finished, squeezed}

@@ -1,5 +1,5 @@
 -- The steps over all executions, pass by pass.
-use Rattle.std.specs.Prelude.{◌≡◌, List, ◌∷◌, ℕ, ◌+◌, ◌*◌, length, take}
+use Rattle.std.specs.Prelude.{◌≡◌, List, ◌∷◌, ℕ, ◌+◌, ◌*◌, length}
 use Rattle.slices.specs.Lists.{rows, row, part, put}
 use Rattle.slices.specs.Layout.{total}
 use Rattle.shake.specs.Shake128.{shake128}

@@ -3,7 +3,6 @@
 use Rattle.std.specs.Prelude.{◌≡◌, refl, List, [], ◌∷◌, ◌++◌, ℕ}
 use Rattle.field.specs.Wide32.{low32}
 use Rattle.field.specs.Wide.{ops}
-use Rattle.poly.specs.Field.{Ops}
 use Rattle.aes.specs.Aes as aes
 use Rattle.banquet.specs.Shape.{message_limit, work_length}
 use Rattle.banquet.specs.Scheme.{GoodKey, wide_ops}

@@ -1,5 +1,5 @@
 -- `check_signature::recomputed` meets its contract: there is room for the challenges, and they are those of h1, h2 and h3. Assumes nothing.
-use mathlib.Core.Path.{ap, ◌∙◌}
+use mathlib.Core.Path.{ap}
 use mathlib.Core.List.{◌∷◌}
 use Prim.Native.Nat.{ℕ, ◌*◌, ◌≤◌, zero-le}
 use native.Mathlib.Omega.{arith}

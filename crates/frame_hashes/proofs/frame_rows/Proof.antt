@@ -1,5 +1,5 @@
 -- `frame_hashes::frame_rows` meets its contract: seeds, commitments, the shown parties' rows, and from these the hidden one's. Assumes nothing.
-use mathlib.Core.Path.{◌≡◌, refl, sym, ◌∙◌}
+use mathlib.Core.Path.{◌≡◌, sym, ◌∙◌}
 use mathlib.Core.List.{List}
 use Prim.Native.Nat.{ℕ, ◌-◌, ◌*◌, ◌^◌, ◌≤◌, zero-le}
 use native.Mathlib.Omega.{arith}

@@ -11,18 +11,18 @@ use Rattle.print_verdict.proofs.+decimal.Lts-decimal as decimal-lts
 use Rattle.print_verdict.proofs.+decimal.{statement}
 use Rattle.print_verdict.proofs.+decimal.Tie.{close}
 
-abbrev μ_decimal : Measures 1 decimal_kinds.ps ℕ
+abbrev μ_decimal : Measures 1 decimal-kinds.ps ℕ
 μ_decimal κs a = a.0
 
-abbrev decimal_at : ℕ → In 1 decimal_kinds.ps
-decimal_at t = and 1 decimal_kinds.ps (is 1 decimal_kinds.ps μ_decimal t) decimal.Pre
+abbrev decimal_at : ℕ → In 1 decimal-kinds.ps
+decimal_at t = and 1 decimal-kinds.ps (is 1 decimal-kinds.ps μ_decimal t) decimal.Pre
 
-abbrev decimal_below : ℕ → In 1 decimal_kinds.ps
-decimal_below t = and 1 decimal_kinds.ps (falls 1 decimal_kinds.ps ◌<◌ μ_decimal t) decimal.Pre
+abbrev decimal_below : ℕ → In 1 decimal-kinds.ps
+decimal_below t = and 1 decimal-kinds.ps (falls 1 decimal-kinds.ps ◌<◌ μ_decimal t) decimal.Pre
 
 pub +decimal-spec : {M : Type 1} → statement M
 +decimal-spec =
-    close μ_decimal λ t. decimal_lts.spec (decimal_below t, decimal.Post) (decimal_at t) decimal.Post
+    close μ_decimal λ t. decimal-lts.spec (decimal_below t, decimal.Post) (decimal_at t) decimal.Post
     (λ c. search rules) (λ c. search rules) (λ c. omega (arith, length_small _ c.if1.true))
     (λ c. omega (arith, length_small _ c.if1.true)) (λ c. search rules)
     (λ c. (omega (arith, length_small _ c.if1.true), put_small _ _ _ c.if1.true (omega (arith, length_small _ c.if1.true))))

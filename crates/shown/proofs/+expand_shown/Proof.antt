@@ -18,23 +18,23 @@ use Rattle.tree.proofs.Halves.{first_half, second_half, middle, seeds_long}
 use Rattle.tree.proofs.Leaves.{shown_none, shown_left, shown_right}
 use Rattle.shown.proofs.expand_shown.Reads as expand-shown
 use Rattle.shown.proofs.expand_shown.Kinds as expand-shown-kinds
-use Rattle.shown.proofs.+expand_shown.Lts-expand_shown as expand-shown-lts
+use Rattle.shown.proofs.+expand-shown.Lts-expand_shown as expand-shown-lts
 use Rattle.slices.proofs.zero.Reads as zero-reads
 use Rattle.tree.proofs.expand.Reads as expand-reads
-use Rattle.shown.proofs.+expand_shown.{statement}
-use Rattle.shown.proofs.+expand_shown.Tie.{close}
+use Rattle.shown.proofs.+expand-shown.{statement}
+use Rattle.shown.proofs.+expand-shown.Tie.{close}
 
-abbrev μ_expand_shown : Measures 3 expand_shown_kinds.ps ℕ
+abbrev μ_expand_shown : Measures 3 expand-shown-kinds.ps ℕ
 μ_expand_shown κs a = a.0
 
-abbrev expand_shown_at : ℕ → In 3 expand_shown_kinds.ps
-expand_shown_at t = and 3 expand_shown_kinds.ps (is 3 expand_shown_kinds.ps μ_expand_shown t) expand_shown.Pre
+abbrev expand_shown_at : ℕ → In 3 expand-shown-kinds.ps
+expand_shown_at t = and 3 expand-shown-kinds.ps (is 3 expand-shown-kinds.ps μ_expand_shown t) expand-shown.Pre
 
-abbrev expand_shown_below : ℕ → In 3 expand_shown_kinds.ps
-expand_shown_below t = and 3 expand_shown_kinds.ps (falls 3 expand_shown_kinds.ps ◌<◌ μ_expand_shown t) expand_shown.Pre
+abbrev expand_shown_below : ℕ → In 3 expand-shown-kinds.ps
+expand_shown_below t = and 3 expand-shown-kinds.ps (falls 3 expand-shown-kinds.ps ◌<◌ μ_expand_shown t) expand-shown.Pre
 
-abbrev claims : ℕ → expand_shown_lts.Claims
-claims t = (zero_reads.Asked, zero_reads.Learnt, expand_shown_below t, expand_shown.Post, expand_reads.Asked, expand_reads.Learnt)
+abbrev claims : ℕ → expand-shown-lts.Claims
+claims t = (zero-reads.Asked, zero-reads.Learnt, expand_shown_below t, expand-shown.Post, expand-reads.Asked, expand-reads.Learnt)
 
 -- ---- counts
 
@@ -55,8 +55,8 @@ falling e h = omega (arith, e, h)
 
 -- ---- where the depth is not 0
 
-module _ (t : ℕ) (c : expand_shown_lts.Else1 (claims t) (expand_shown_at t) expand_shown.Post) where
-  abbrev start : expand_shown_lts.Start (claims t) (expand_shown_at t) expand_shown.Post
+module _ (t : ℕ) (c : expand-shown-lts.Else1 (claims t) (expand_shown_at t) expand-shown.Post) where
+  abbrev start : expand-shown-lts.Start (claims t) (expand_shown_at t) expand-shown.Post
   start = c.before.before.before.before
 
   below : Halved start.args.node start.args.depth
@@ -79,7 +79,7 @@ module _ (t : ℕ) (c : expand_shown_lts.Else1 (claims t) (expand_shown_at t) ex
 
 pub +expand-shown-spec : {M : Type 1} → statement M
 +expand-shown-spec =
-    close μ_expand_shown λ t. expand_shown_lts.spec (claims t) (expand_shown_at t) expand_shown.Post
+    close μ_expand_shown λ t. expand-shown-lts.spec (claims t) (expand_shown_at t) expand-shown.Post
     (λ c κs. tt)
     (λ c. (below t c.before).deep)
     (λ c. double_fits (below t c.before).small)

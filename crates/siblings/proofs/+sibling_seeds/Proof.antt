@@ -13,27 +13,27 @@ use Rattle.nodes.proofs.Halves.{Halved, halved}
 use Rattle.siblings.proofs.Siblings.{shift_lt, shift_is, Step, step_left, step_right, seed_at, first, both, siblings_none}
 use Rattle.siblings.proofs.sibling_seeds.Reads as sibling-seeds
 use Rattle.siblings.proofs.sibling_seeds.Kinds as sibling-seeds-kinds
-use Rattle.siblings.proofs.+sibling_seeds.Lts-sibling_seeds as sibling-seeds-lts
+use Rattle.siblings.proofs.+sibling-seeds.Lts-sibling_seeds as sibling-seeds-lts
 use Rattle.nodes.proofs.children.Reads as children-reads
 use Rattle.slices.proofs.copy_at.Reads as copy-at-reads
-use Rattle.siblings.proofs.+sibling_seeds.{statement}
-use Rattle.siblings.proofs.+sibling_seeds.Tie.{close}
+use Rattle.siblings.proofs.+sibling-seeds.{statement}
+use Rattle.siblings.proofs.+sibling-seeds.Tie.{close}
 
-abbrev μ_sibling_seeds : Measures 3 sibling_seeds_kinds.ps ℕ
+abbrev μ_sibling_seeds : Measures 3 sibling-seeds-kinds.ps ℕ
 μ_sibling_seeds κs a = a.0
 
-abbrev sibling_seeds_at : ℕ → In 3 sibling_seeds_kinds.ps
-sibling_seeds_at t = and 3 sibling_seeds_kinds.ps (is 3 sibling_seeds_kinds.ps μ_sibling_seeds t) sibling_seeds.Pre
+abbrev sibling_seeds_at : ℕ → In 3 sibling-seeds-kinds.ps
+sibling_seeds_at t = and 3 sibling-seeds-kinds.ps (is 3 sibling-seeds-kinds.ps μ_sibling_seeds t) sibling-seeds.Pre
 
-abbrev sibling_seeds_below : ℕ → In 3 sibling_seeds_kinds.ps
-sibling_seeds_below t = and 3 sibling_seeds_kinds.ps (falls 3 sibling_seeds_kinds.ps ◌<◌ μ_sibling_seeds t) sibling_seeds.Pre
+abbrev sibling_seeds_below : ℕ → In 3 sibling-seeds-kinds.ps
+sibling_seeds_below t = and 3 sibling-seeds-kinds.ps (falls 3 sibling-seeds-kinds.ps ◌<◌ μ_sibling_seeds t) sibling-seeds.Pre
 
-abbrev claims : ℕ → sibling_seeds_lts.Claims
-claims t = (children_reads.Asked, children_reads.Learnt, copy_at_reads.Asked, copy_at_reads.Learnt, sibling_seeds_below t, sibling_seeds.Post)
+abbrev claims : ℕ → sibling-seeds-lts.Claims
+claims t = (children-reads.Asked, children-reads.Learnt, copy-at-reads.Asked, copy-at-reads.Learnt, sibling_seeds_below t, sibling-seeds.Post)
 
 -- where the depth is not 0
-module _ (t : ℕ) (c : sibling_seeds_lts.After-children (claims t) (sibling_seeds_at t) sibling_seeds.Post) where
-  abbrev start : sibling_seeds_lts.Start (claims t) (sibling_seeds_at t) sibling_seeds.Post
+module _ (t : ℕ) (c : sibling-seeds-lts.After-children (claims t) (sibling_seeds_at t) sibling-seeds.Post) where
+  abbrev start : sibling-seeds-lts.Start (claims t) (sibling_seeds_at t) sibling-seeds.Post
   start = c.before.before.before.before.before
 
   abbrev out : List ℕ
@@ -50,7 +50,7 @@ module _ (t : ℕ) (c : sibling_seeds_lts.After-children (claims t) (sibling_see
   room = omega (arith, size, below.deep)
 
 -- where the way is chosen
-module _ (t : ℕ) (c : sibling_seeds_lts.Joined2 (claims t) (sibling_seeds_at t) sibling_seeds.Post) where
+module _ (t : ℕ) (c : sibling-seeds-lts.Joined2 (claims t) (sibling_seeds_at t) sibling-seeds.Post) where
   abbrev pair : List ℕ
   pair = c.before.children.result
 
@@ -65,8 +65,8 @@ module _ (t : ℕ) (c : sibling_seeds_lts.Joined2 (claims t) (sibling_seeds_at t
       (λ w. step_left a.salt.now a.e a.node a.seed.now e a.hidden b (shift_is b) w.0.left w.1 w.2 w.3) c.if2.branch
 
 -- where the sibling's seed is written
-module _ (t : ℕ) (c : sibling_seeds_lts.After-copy-at (claims t) (sibling_seeds_at t) sibling_seeds.Post) where
-  abbrev way : sibling_seeds_lts.Joined2 (claims t) (sibling_seeds_at t) sibling_seeds.Post
+module _ (t : ℕ) (c : sibling-seeds-lts.After-copy-at (claims t) (sibling_seeds_at t) sibling-seeds.Post) where
+  abbrev way : sibling-seeds-lts.Joined2 (claims t) (sibling_seeds_at t) sibling-seeds.Post
   way = c.before.before.before.before.before
 
   wrote : Wrote (out t way.before) (seed_at (16 - way.if2.own) (pair t way)) 16 c.copy_at.new.0
@@ -77,7 +77,7 @@ module _ (t : ℕ) (c : sibling_seeds_lts.After-copy-at (claims t) (sibling_seed
 
 pub +sibling-seeds-spec : {M : Type 1} → statement M
 +sibling-seeds-spec =
-    close μ_sibling_seeds λ t. sibling_seeds_lts.spec (claims t) (sibling_seeds_at t) sibling_seeds.Post
+    close μ_sibling_seeds λ t. sibling-seeds-lts.spec (claims t) (sibling_seeds_at t) sibling-seeds.Post
     (λ c κs. search rules)
     (λ c. omega (arith, below t c))
     (λ c. shift_lt (below t c))

@@ -1,6 +1,6 @@
 -- `steps::shift_rows` fills a block with the bytes of the rows shifted. Assumes nothing.
 use mathlib.Core.Path.{refl}
-use Prim.Native.Nat.{◌+◌, ◌-◌, ◌*◌, ◌/◌, ◌%◌}
+use Prim.Native.Nat.{◌+◌, ◌-◌, ◌/◌, ◌%◌}
 use native.Mathlib.Omega.{arith}
 use borrow.Author.Rules.{rules}
 use Rattle.slices.proofs.Fill.{Filling, filling_none, filling_more, filling_all}

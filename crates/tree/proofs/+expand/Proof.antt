@@ -17,26 +17,26 @@ use Rattle.nodes.proofs.children.Reads as children-reads
 use Rattle.tree.proofs.+expand.{statement}
 use Rattle.tree.proofs.+expand.Tie.{close}
 
-abbrev μ_expand : Measures 3 expand_kinds.ps ℕ
+abbrev μ_expand : Measures 3 expand-kinds.ps ℕ
 μ_expand κs a = a.0
 
-abbrev expand_at : ℕ → In 3 expand_kinds.ps
-expand_at t = and 3 expand_kinds.ps (is 3 expand_kinds.ps μ_expand t) expand.Pre
+abbrev expand_at : ℕ → In 3 expand-kinds.ps
+expand_at t = and 3 expand-kinds.ps (is 3 expand-kinds.ps μ_expand t) expand.Pre
 
-abbrev expand_below : ℕ → In 3 expand_kinds.ps
-expand_below t = and 3 expand_kinds.ps (falls 3 expand_kinds.ps ◌<◌ μ_expand t) expand.Pre
+abbrev expand_below : ℕ → In 3 expand-kinds.ps
+expand_below t = and 3 expand-kinds.ps (falls 3 expand-kinds.ps ◌<◌ μ_expand t) expand.Pre
 
 -- where the depth is not 0
 module _ (t : ℕ)
-    (c : expand_lts.After-children (copy_reads.Asked, copy_reads.Learnt, children_reads.Asked, children_reads.Learnt, expand_below t, expand.Post)
+    (c : expand-lts.After-children (copy-reads.Asked, copy-reads.Learnt, children-reads.Asked, children-reads.Learnt, expand_below t, expand.Post)
     (expand_at t) expand.Post) where
   below : Halved c.before.before.before.before.before.args.node c.before.before.before.before.before.args.depth
   below = halved _ _ (omega (arith, c.before.if1.false)) c.before.before.before.before.before.requires.1.3
 
 pub +expand-spec : {M : Type 1} → statement M
 +expand-spec =
-    close μ_expand λ t. expand_lts.spec
-    (copy_reads.Asked, copy_reads.Learnt, children_reads.Asked, children_reads.Learnt, expand_below t, expand.Post)
+    close μ_expand λ t. expand-lts.spec
+    (copy-reads.Asked, copy-reads.Learnt, children-reads.Asked, children-reads.Learnt, expand_below t, expand.Post)
     (expand_at t) expand.Post
     (λ c κs. omega (arith, ap (2 ^◌) c.before.if1.true)) (λ c κs. search rules)
     (λ c. omega (arith, below t c)) (λ c. omega (arith, below t c)) (λ c. omega (arith, below t c)) (λ c. search rules)
