@@ -66,48 +66,48 @@ module _ (key p : List ℕ) where
 
 -- ---- the loop
 
-abbrev invariant-loop : tie.invariant-loop
+abbrev invariant-loop : tie.invariant-loop-n
 invariant-loop key plaintext inputs₀ k₀ x₀ n₀ inputs k x n =
     Running (round_key key) (entering (key_expansion key) plaintext) (aes key plaintext) n k x inputs
 
-abbrev decreases-loop : tie.decreases-loop
+abbrev decreases-loop : tie.decreases-loop-n
 decreases-loop key plaintext inputs₀ k₀ x₀ n₀ inputs k x n = 10 - n
 
 -- ---- earlier moments
 
-abbrev start-before-loop : tie.At-loop invariant-loop decreases-loop → tie.Start invariant-loop decreases-loop
+abbrev start-before-loop : tie.At-loop-n invariant-loop decreases-loop → tie.Start invariant-loop decreases-loop
 start-before-loop c = c.before.before.before.before.before.before.before
 
-loop-holds : tie.Need-loop-init invariant-loop decreases-loop
+loop-holds : tie.Need-loop-n-init invariant-loop decreases-loop
 unfolding round_key
 loop-holds c =
-    let p = c.before in
-    let k = p.before in
-    let args = k.before.before.before.before.args in
-    running_none (length_entering _ _) (length_aes _ _) k.block_at.ensures
-    (first_state args.key.now args.plaintext.now c.add-blocks.ensures p.block-at2.ensures k.block_at.ensures) (omega arith)
+    let p = c in
+    let k = p in
+    let args = k.args in
+    running_none (length_entering _ _) (length_aes _ _) k.block_at-k.ensures
+    (first_state args.key.now args.plaintext.now c.add_blocks-x.ensures p.block_at.ensures k.block_at-k.ensures) (omega arith)
 
-loop-again : tie.Need-loop-preserved invariant-loop decreases-loop
+loop-again : tie.Need-loop-n-preserved invariant-loop decreases-loop
 loop-again c =
-    let y = c.before.before in
-    let next = y.before.before in
-    let second = next.before.before.before in
-    let first = second.before.before.before.before.before in
-    let word = first.before.before in
-    let at = word.before.before.before in
+    let y = c in
+    let next = y in
+    let second = next in
+    let first = second in
+    let word = first in
+    let at = word.before.before.before.before.before.before.before.before.before.before.before.before.before.before.before.before.before in
     let args = (start-before-loop at).args in
-    let turn = at.loop.invariant in
-    let less : at.loop.n < 10 = omega arith in
-    let k = next_key_lem args.key.now args.plaintext.now at.loop.n turn.key next.next-round-key.ensures in
+    let turn = at.loop-n.invariant in
+    let less : at.loop-n.n < 10 = omega arith in
+    let k = next_key_lem args.key.now args.plaintext.now at.loop-n.n turn.key next.next_round_key-next.ensures in
     let state = turn.state less in
-    running_more (length_entering _ _) (length_aes _ _) turn less word.key-input.ensures first.copy_at.ensures second.copy-at2.ensures k
-    (λ l. next_state args.key.now args.plaintext.now at.loop.n state y.substitute.ensures k l (c.round.ensures.0 l))
-    (λ e. last_state args.key.now args.plaintext.now at.loop.n state y.substitute.ensures k e (c.round.ensures.1 e))
+    running_more (length_entering _ _) (length_aes _ _) turn less word.key_input.ensures first.copy_at.ensures second.copy_at-in-loop-n.ensures k
+    (λ l. next_state args.key.now args.plaintext.now at.loop-n.n state y.substitute.ensures k l (c.round-x.ensures.0 l))
+    (λ e. last_state args.key.now args.plaintext.now at.loop-n.n state y.substitute.ensures k e (c.round-x.ensures.1 e))
 
 returns : tie.Need-returns invariant-loop decreases-loop
 unfolding sbox_inputs
 returns c =
-    let turn = c.before.loop.invariant in
+    let turn = c.loop-n.invariant in
     (turn.output (omega arith), running_inputs turn (omega arith))
 
 pub encrypt_spec : {M : Type 1} → statement M

@@ -9,12 +9,12 @@ use Rattle.cipher.proofs.next_round_key.Tie as tie
 
 returns : tie.Need-returns
 returns c =
-    let constant = c.before in
-    let second = constant.before.before in
-    let first = second.before.before in
+    let constant = c in
+    let second = constant in
+    let first = second in
     c.key_step.ensures
-    ∙ ap₂ (λ (s : List ℕ) (r : ℕ). next_key first.before.args.k (add 4 s (r ∷ 0 ∷ 0 ∷ 0 ∷ [])))
-    (second.substitute.ensures ∙ ap (map sbox) first.key-input.ensures) constant.round-constant.ensures
+    ∙ ap₂ (λ (s : List ℕ) (r : ℕ). next_key first.args.k (add 4 s (r ∷ 0 ∷ 0 ∷ 0 ∷ [])))
+    (second.substitute.ensures ∙ ap (map sbox) first.key_input-s.ensures) constant.round_constant.ensures
 
 pub next_round_key_spec : {M : Type 1} → statement M
 next_round_key_spec =

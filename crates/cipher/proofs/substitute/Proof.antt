@@ -15,9 +15,9 @@ affine b = bit_xor (matrix b) 0x63
 returns : tie.Need-returns
 unfolding sbox
 returns c =
-    let second = c.before.before in
-    let first = second.before.before.before.before in
-    second.affine.ensures ∙ ap (map affine) first.invert.ensures ∙ map-map affine inverse8 first.before.before.before.args.s.now
+    let second = c in
+    let first = second in
+    second.affine.ensures ∙ ap (map affine) first.invert.ensures ∙ map-map affine inverse8 first.args.s.now
 
 pub substitute_spec : {M : Type 1} → statement M
 substitute_spec = tie.close (tie.spec (λ c κs. search rules) (λ c κs. search rules) (λ c. search rules) returns)

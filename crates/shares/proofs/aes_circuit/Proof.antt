@@ -50,10 +50,10 @@ module _ (one : ℕ) (key plaintext y : List ℕ) {z : List ℕ} (given : z ≡ 
 
 returns : tie.Need-returns
 returns c =
-    let rounds = c.before.before in
-    let sum = rounds.before.before.before.before in
-    let copied = sum.before.before.before in
-    let entry = copied.before.before.before.before.before.before in
+    let rounds = c in
+    let sum = rounds in
+    let copied = sum in
+    let entry = copied in
     let args = entry.args in
     let y = args.inverses.now in
     let size : length y ≡ 200 = omega (arith, entry.requires) in

@@ -21,17 +21,17 @@ word_read z a = ap (λ (i : ℕ). get_or z i 0 ∷ get_or z (a + 1) 0 ∷ get_or
 public_rcon : (one n : ℕ) → mul8 one (get_or round_constants n 0) ∷ 0 ∷ 0 ∷ 0 ∷ [] ≡ public one 4 (rcon n)
 public_rcon one n = ap (λ (x : ℕ). mul8 one (get_or round_constants n 0) ∷ x ∷ x ∷ x ∷ []) (sym (zero_r 8 mul8 field8.ring one))
 
-abbrev start : tie.After-round-constant → tie.Start
+abbrev start : tie.After-round_constant → tie.Start
 start c = c.before.before.before.before.before.before
 
-small : (c : tie.After-round-constant) → (start c).args.one < 2
+small : (c : tie.After-round_constant) → (start c).args.one < 2
 small c = omega (arith, (start c).requires)
 
-byte : (c : tie.After-round-constant) → c.round-constant.result < 256
+byte : (c : tie.After-round_constant) → c.round_constant.result < 256
 byte c = omega arith
 
 mul-key-step : tie.Need-overflow-mul-key-step
-mul-key-step c = omega (arith, public_fits (start c).args.one c.round-constant.result (small c) (byte c))
+mul-key-step c = omega (arith, public_fits (start c).args.one c.round_constant.result (small c) (byte c))
 
 returns : tie.Need-returns
 returns c =
@@ -40,8 +40,8 @@ returns c =
     c.key_step.ensures
     ∙ ap₂ (λ (s t : List ℕ). next_key args.k (add 4 s t)) (word_read args.z.now (args.n * 4))
     (ap (λ (x : ℕ). x ∷ 0 ∷ 0 ∷ 0 ∷ [])
-    (public_byte args.one constant.round-constant.result (small constant) (byte constant)
-    ∙ ap (mul8 args.one) constant.round-constant.ensures)
+    (public_byte args.one constant.round_constant.result (small constant) (byte constant)
+    ∙ ap (mul8 args.one) constant.round_constant.ensures)
     ∙ public_rcon args.one args.n)
 
 pub next_key_share_spec : {M : Type 1} → statement M

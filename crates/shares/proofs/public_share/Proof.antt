@@ -17,21 +17,21 @@ use Rattle.shares.proofs.public_share.Tie as tie
 public_zero : (n : ℕ) (v : List ℕ) → replicate n 0 ≡ public 0 n v
 public_zero n v = sym (tab_cong n (λ i l. zero_l 8 mul8 field8.ring (get_or v i 0)) ∙ tab_same 0 n)
 
-returns : tie.Need-returns
+returns : tie.Need-returns-then-one-eq0
 returns c =
-    let args = c.before.before.args in
+    let args = c.args in
     let zero : 0 ≡ args.one = omega arith in
     public_zero 16 args.v.now ∙ ap (λ (x : ℕ). public x 16 args.v.now) zero
 
-returns-2 : tie.Need-returns-2
+returns-2 : tie.Need-returns
 returns-2 c =
-    let known = c.before.before in
-    let args = known.before.args in
+    let known = c in
+    let args = known.args in
     let v = args.v.now in
     let one : args.one ≡ 1 = omega arith in
     let size : length v ≡ 16 = omega arith in
     c.block_at.ensures ∙ tab_sized v size
-    ∙ sym (ap (λ (x : ℕ). public x 16 v) one ∙ public_one {v = v} (bytes_of known.shared-slice-known.given) size)
+    ∙ sym (ap (λ (x : ℕ). public x 16 v) one ∙ public_one {v = v} (bytes_of known.shared_slice_known-1.given) size)
 
 pub public_share_spec : {M : Type 1} → statement M
 public_share_spec = tie.close (tie.spec returns (λ c κs. search rules) returns-2)

@@ -58,61 +58,61 @@ module _ (one : ℕ) (key plaintext z : List ℕ) where
 
 -- ---- the loop
 
-abbrev invariant-loop : tie.invariant-loop
+abbrev invariant-loop : tie.invariant-loop-n
 invariant-loop one key plaintext z inputs₀ k₀ x₀ n₀ inputs k x n =
     (length z ≡ 200) × Running (round_key_share one key z) (states one key plaintext z) (output one key plaintext z) n k x inputs
 
-abbrev decreases-loop : tie.decreases-loop
+abbrev decreases-loop : tie.decreases-loop-n
 decreases-loop one key plaintext z inputs₀ k₀ x₀ n₀ inputs k x n = 10 - n
 
 -- ---- earlier moments
 
-abbrev start-before-loop : tie.At-loop invariant-loop decreases-loop → tie.Start invariant-loop decreases-loop
+abbrev start-before-loop : tie.At-loop-n invariant-loop decreases-loop → tie.Start invariant-loop decreases-loop
 start-before-loop c = c.before.before.before.before.before.before.before.before
 
-loop-holds : tie.Need-loop-init invariant-loop decreases-loop
+loop-holds : tie.Need-loop-n-init invariant-loop decreases-loop
 unfolding round_key_share
 loop-holds c =
-    let p = c.before in
-    let k = p.before in
-    let start = k.before.before.before.before.before in
+    let p = c in
+    let k = p in
+    let start = k in
     let one = start.args.one in
     let key = start.args.key.now in
     let plaintext = start.args.plaintext.now in
     let z = start.args.z.now in (
       omega (arith, start.requires),
-      running_none (length_entering_share _ _ _) (length_output one key plaintext z) k.block_at.ensures
-          (first_state one key plaintext z c.add-blocks.ensures p.public-share.ensures k.block_at.ensures)
+      running_none (length_entering_share _ _ _) (length_output one key plaintext z) k.block_at-k.ensures
+          (first_state one key plaintext z c.add_blocks-x.ensures p.public_share.ensures k.block_at-k.ensures)
           (omega (arith, start.requires)),
     )
 
-loop-again : tie.Need-loop-preserved invariant-loop decreases-loop
+loop-again : tie.Need-loop-n-preserved invariant-loop decreases-loop
 loop-again c =
-    let y = c.before in
-    let next = y.before.before in
-    let second = next.before.before.before in
-    let first = second.before.before.before.before.before in
-    let word = first.before.before in
-    let at = word.before.before.before in
+    let y = c in
+    let next = y in
+    let second = next in
+    let first = second in
+    let word = first in
+    let at = word.before.before.before.before.before.before.before.before.before.before.before.before.before.before.before.before in
     let start = start-before-loop at in
     let one = start.args.one in
     let key = start.args.key.now in
     let plaintext = start.args.plaintext.now in
     let z = start.args.z.now in
-    let n = at.loop.n in
-    let size = at.loop.invariant.0 in
-    let turn = at.loop.invariant.1 in
+    let n = at.loop-n.n in
+    let size = at.loop-n.invariant.0 in
+    let turn = at.loop-n.invariant.1 in
     let less : n < 10 = omega arith in
-    let k = next_key_lem one key plaintext z n turn.key next.next-key-share.ensures in (
+    let k = next_key_lem one key plaintext z n turn.key next.next_key_share-next.ensures in (
       size,
-      running_more (length_entering_share _ _ _) (length_output one key plaintext z) turn less word.key-input.ensures first.copy_at.ensures
-          second.copy-at2.ensures k (λ l. next_state one key plaintext z n size y.block-at2.ensures k l (c.round.ensures.0 l))
-          (λ e. last_state one key plaintext z n size y.block-at2.ensures k e (c.round.ensures.1 e)),
+      running_more (length_entering_share _ _ _) (length_output one key plaintext z) turn less word.key_input.ensures first.copy_at.ensures
+          second.copy_at-in-loop-n.ensures k (λ l. next_state one key plaintext z n size y.block_at.ensures k l (c.round-x.ensures.0 l))
+          (λ e. last_state one key plaintext z n size y.block_at.ensures k e (c.round-x.ensures.1 e)),
     )
 
 returns : tie.Need-returns invariant-loop decreases-loop
 returns c =
-    let turn = c.before.loop.invariant.1 in
+    let turn = c.loop-n.invariant.1 in
     (turn.output (omega arith), running_inputs turn (omega arith))
 
 pub rounds_spec : {M : Type 1} → statement M
