@@ -30,7 +30,7 @@ small c = omega (arith, (start c).requires)
 byte : (c : tie.After-round_constant) → c.round_constant.result < 256
 byte c = omega arith
 
-mul-key-step : tie.Need-overflow-mul-key-step
+mul-key-step : tie.Need-overflow_mul-one
 mul-key-step c = omega (arith, public_fits (start c).args.one c.round_constant.result (small c) (byte c))
 
 returns : tie.Need-returns
