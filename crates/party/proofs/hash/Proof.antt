@@ -11,13 +11,13 @@ use Rattle.party.proofs.hash.Tie as tie
 returns : tie.Need-returns
 unfolding party_hash
 returns c =
-    let second = c.before.before.before.before.before.before in
-    let first = second.before.before.before in
-    let s = first.before.before.before.before.before in
+    let second = c in
+    let first = second in
+    let s = first in
     let a = s.args in
-    c.before.before.digest.ensures
+    c.digest.ensures
     ∙ ap (λ m. shake128 m (length a.out.now))
-    (buffer a.tag a.e a.i a.salt.now a.seed.now s.requires first.copy_at.ensures second.copy-at2.ensures)
+    (buffer a.tag a.e a.i a.salt.now a.seed.now s.requires first.copy_at.ensures second.copy_at-2.ensures)
 
 pub hash_spec : {M : Type 1} → statement M
 hash_spec =
