@@ -1,6 +1,6 @@
 // Checks a card: its text comes from standard input, and `accepted`, or `refused` with number and place, goes to standard output.
 #![tactic(auto)]
 
-fn main() {
-    card_program::run();
+fn main(rt: HostRuntime) {
+    card_program::run(rt);
 }

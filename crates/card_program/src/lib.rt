@@ -15,9 +15,9 @@ fn room() -> [u8; card_sizes::TEXT + 1]
 }
 
 // Where a read fails nothing is printed, since the text may go on.
-pub fn run() {
+pub fn run(rt: HostRuntime) {
     let mut text = room();
-    let input = stdio::read(&mut text);
+    let input = stdio::read(rt, &mut text);
     if input.failed {
         return;
     }
@@ -25,5 +25,5 @@ pub fn run() {
     let line = print_card::print_card(&text[..n]);
     let bytes = line.bytes;
     let end = line.length;
-    stdio::write(&bytes[..end]);
+    stdio::write(rt, &bytes[..end]);
 }

@@ -3,23 +3,22 @@
 // read or a write fails.
 #![tactic(auto)]
 
-
 // Answers line n, and returns whether another may follow.
-fn answer(pair: &[u8], n: u32) -> bool {
+fn answer(rt: HostRuntime, pair: &[u8], n: u32) -> bool {
     let mut public = [0u8; 32];
     let verdict = verdict::verdict(pairs::make_pair(pair, &mut public));
     let mut line = [0u8; 65];
     let end = pairs::print_pair(verdict, &public, n, &mut line);
-    if stdio::write(&line[..end]) < end {
+    if stdio::write(rt, &line[..end]) < end {
         return false;
     }
     verdict.number != 18
 }
 
-fn main() {
+fn main(rt: HostRuntime) {
     for i in 0..4000000000u32 {
         let mut pair = [0u8; 65];
-        let input = stdio::read(&mut pair);
+        let input = stdio::read(rt, &mut pair);
         if input.failed {
             return;
         }
@@ -27,7 +26,7 @@ fn main() {
         if n == 0 {
             return;
         }
-        if !answer(&pair[..n], i + 1) {
+        if !answer(rt, &pair[..n], i + 1) {
             return;
         }
     }

@@ -21,14 +21,14 @@ fn card_room() -> [u8; card_sizes::TEXT]
     [0; card_sizes::TEXT]
 }
 
-fn main() {
+fn main(rt: HostRuntime) {
     let mut text = request_room();
-    let input = stdio::read(&mut text);
+    let input = stdio::read(rt, &mut text);
     if input.failed {
         return;
     }
     let n = input.length;
     let mut card = card_room();
     let end = requests::print_request(&text[..n], &mut card);
-    stdio::write(&card[..end]);
+    stdio::write(rt, &card[..end]);
 }

@@ -5,18 +5,16 @@
 
 ghost use Rattle.std.specs.Prelude.{◌≡◌, ◌≤◌, length};
 
-use libc::{STDIN_FILENO, STDOUT_FILENO};
-
 // Two digits a byte, and a space.
-fn print(s: &[u8])
+fn print(rt: HostRuntime, s: &[u8])
     requires { length s.now ≤ 200 }
 {
     let mut text = [0u8; 400];
     let end = 2 * s.len();
     let digits = &mut text[0..end];
     hex_digits::encode(s, digits);
-    io::write_all(STDOUT_FILENO, digits);
-    io::write_all(STDOUT_FILENO, b" ");
+    stdio::write(rt, digits);
+    stdio::write(rt, b" ");
 }
 
 fn encrypt(line: &[u8], inputs: &mut [u8]) -> [u8; 16]
@@ -29,24 +27,24 @@ fn encrypt(line: &[u8], inputs: &mut [u8]) -> [u8; 16]
     cipher::encrypt(&key, &plaintext, inputs)
 }
 
-fn answer(line: &[u8])
+fn answer(rt: HostRuntime, line: &[u8])
     requires { length line.now ≡ 66 }
 {
     let mut inputs = [0u8; 200];
     let ciphertext = encrypt(line, &mut inputs);
-    print(&ciphertext);
+    print(rt, &ciphertext);
     let given: &[u8] = &inputs;
-    print(given);
-    io::print_decimal(STDOUT_FILENO, sbox_inputs::first_zero(given) as u64);
-    io::write_all(STDOUT_FILENO, b"\n");
+    print(rt, given);
+    let first = sbox_inputs::first_zero(given);
+    let _ = println!(rt; "{first}");
 }
 
-fn main() {
+fn main(rt: HostRuntime) {
     let mut line = [0u8; 66];
     for _ in 0..100usize {
-        if io::read_full(STDIN_FILENO, &mut line) == 0 {
+        if stdio::read(rt, &mut line).length == 0 {
             return;
         }
-        answer(&line);
+        answer(rt, &line);
     }
 }

@@ -17,13 +17,12 @@
 ghost use Rattle.std.specs.Prelude.{◌≡◌, ◌+◌, ◌*◌, ◌≤◌, length};
 
 use banquet::Answer;
-use libc::{STDIN_FILENO, STDOUT_FILENO};
 
 // Bytes in hexadecimal.
-fn read(text: &mut [u8], out: &mut [u8])
+fn read(rt: HostRuntime, text: &mut [u8], out: &mut [u8])
     requires { length text.old ≡ 2 * length out.old }
 {
-    io::read_full(STDIN_FILENO, text);
+    stdio::read(rt, text);
     hex_digits::decode(text, out);
 }
 
@@ -49,20 +48,20 @@ fn part(s: &[u8], at: usize, from: usize, most: usize) -> &[u8]
 }
 
 // A line's bytes are put where they belong. Returns its kind, or 0 where there is no line.
-fn read_line(lent: &mut [u8]) -> u8
+fn read_line(rt: HostRuntime, lent: &mut [u8]) -> u8
     requires { length lent.old ≡ 53800 }
 {
     let mut text = [0u8; 12];
     let mut head = [0u8; 6];
-    read(&mut text, &mut head);
+    read(rt, &mut text, &mut head);
     let sizes: &[u8] = &head;
     let a = end(sizes, 0, 0, 53800);
     let b = end(sizes, 3, a, 53800);
     let mut digits = [0u8; 107600];
     let n = 2 * (b - a);
-    read(&mut digits[0..n], &mut lent[a..b]);
+    read(rt, &mut digits[0..n], &mut lent[a..b]);
     let mut kind = [0u8; 2];
-    io::read_full(STDIN_FILENO, &mut kind);
+    stdio::read(rt, &mut kind);
     kind[0]
 }
 
@@ -92,9 +91,8 @@ fn call(kind: u8, lent: &[u8], output: &mut [u8], work: &mut [u8]) -> Answer
 }
 
 // A space, and n in decimal.
-fn tell(n: usize) {
-    io::write_all(STDOUT_FILENO, b" ");
-    io::print_decimal(STDOUT_FILENO, n as u64);
+fn tell(rt: HostRuntime, n: usize) {
+    let _ = print!(rt; " {n}");
 }
 
 // The first index from `at` on that has another byte than b.
@@ -113,38 +111,39 @@ fn run(s: &[u8], at: usize, b: u8) -> usize
 }
 
 // Where its zeros end, and where its ee after them end.
-fn tell_ends(s: &[u8]) {
+fn tell_ends(rt: HostRuntime, s: &[u8]) {
     let zeros = run(s, 0, 0);
-    tell(zeros);
-    tell(run(s, zeros, 0xee));
+    tell(rt, zeros);
+    tell(rt, run(s, zeros, 0xee));
 }
 
 // The line for an answer. What is to be the file's of the output is zero where it is.
-fn tell_answer(answer: Answer, lent: &[u8], output: &mut [u8], work: &[u8])
+fn tell_answer(rt: HostRuntime, answer: Answer, lent: &[u8], output: &mut [u8], work: &[u8])
     requires { (length lent.now ≡ 53800) × (length output.old ≡ 19800) }
 {
     let expected = part(lent, 24, 34000, 53800);
     let made = expected.len();
     xor::xor_into(&mut output[0..made], expected);
     let verdict = verdict::verdict(answer);
-    io::print_decimal(STDOUT_FILENO, verdict.number as u64);
-    tell(verdict.place as usize);
-    tell_ends(work);
-    tell_ends(output);
-    io::write_all(STDOUT_FILENO, b"\n");
+    let number = verdict.number;
+    let _ = print!(rt; "{number}");
+    tell(rt, verdict.place as usize);
+    tell_ends(rt, work);
+    tell_ends(rt, output);
+    stdio::write(rt, b"\n");
 }
 
 // Of output and work so much is lent as the numbers say.
-fn answer_call(kind: u8, lent: &[u8], output: &mut [u8], work: &mut [u8])
+fn answer_call(rt: HostRuntime, kind: u8, lent: &[u8], output: &mut [u8], work: &mut [u8])
     requires { (length lent.now ≡ 53800) × (length output.old ≡ 19800) × (length work.old ≡ 65600) }
 {
     let n = end(lent, 18, 0, 19800);
     let w = end(lent, 21, 0, 65600);
     let answer = call(kind, lent, &mut output[0..n], &mut work[0..w]);
-    tell_answer(answer, lent, output, work);
+    tell_answer(rt, answer, lent, output, work);
 }
 
-fn answer(kind: u8, lent: &[u8])
+fn answer(rt: HostRuntime, kind: u8, lent: &[u8])
     requires { length lent.now ≡ 53800 }
 {
     if kind == b'i' {
@@ -152,16 +151,16 @@ fn answer(kind: u8, lent: &[u8])
     }
     let mut output = [0xeeu8; 19800];
     let mut work = [0xeeu8; 65600];
-    answer_call(kind, lent, &mut output, &mut work);
+    answer_call(rt, kind, lent, &mut output, &mut work);
 }
 
-fn main() {
+fn main(rt: HostRuntime) {
     let mut lent = [0u8; 53800];
     for _ in 0..5000usize {
-        let kind = read_line(&mut lent);
+        let kind = read_line(rt, &mut lent);
         if kind == 0 {
             return;
         }
-        answer(kind, &lent);
+        answer(rt, kind, &lent);
     }
 }

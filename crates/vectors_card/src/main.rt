@@ -11,8 +11,6 @@
 
 ghost use Rattle.std.specs.Prelude.{◌≡◌, ◌+◌, ◌*◌, ◌≤◌, length};
 
-use libc::{STDIN_FILENO, STDOUT_FILENO};
-
 fn room() -> [u8; 106000]
     ensures { 106000 ≡ length result }
 {
@@ -20,27 +18,27 @@ fn room() -> [u8; 106000]
 }
 
 // Bytes in hexadecimal.
-fn read(text: &mut [u8], out: &mut [u8])
+fn read(rt: HostRuntime, text: &mut [u8], out: &mut [u8])
     requires { length text.old ≡ 2 * length out.old }
 {
-    io::read_full(STDIN_FILENO, text);
+    stdio::read(rt, text);
     hex_digits::decode(text, out);
 }
 
 // The next byte, or 0 where there is none: a line's kind, or its end.
-fn next() -> u8 {
+fn next(rt: HostRuntime) -> u8 {
     let mut byte = [0u8; 1];
-    io::read_full(STDIN_FILENO, &mut byte);
+    stdio::read(rt, &mut byte);
     byte[0]
 }
 
 // The next number of three bytes, or the most where it is less.
-fn number(most: usize) -> usize
+fn number(rt: HostRuntime, most: usize) -> usize
     ensures { result ≤ most }
 {
     let mut digits = [0u8; 6];
     let mut bytes = [0u8; 3];
-    read(&mut digits, &mut bytes);
+    read(rt, &mut digits, &mut bytes);
     let n = numbers::load(&bytes, 0, 3) as usize;
     if most < n {
         return most;
@@ -49,14 +47,14 @@ fn number(most: usize) -> usize
 }
 
 // A text, and its length.
-fn read_text(text: &mut [u8]) -> usize
+fn read_text(rt: HostRuntime, text: &mut [u8]) -> usize
     requires { length text.old ≡ 106000 }
     ensures { (result ≤ 106000) × (length text.new ≡ 106000) }
 {
-    let n = number(106000);
-    next();
-    io::read_full(STDIN_FILENO, &mut text[0..n]);
-    next();
+    let n = number(rt, 106000);
+    next(rt);
+    stdio::read(rt, &mut text[0..n]);
+    next(rt);
     n
 }
 
@@ -87,69 +85,69 @@ fn replace(text: &mut [u8], n: usize, a: usize, b: usize, put: &[u8]) -> usize
 }
 
 // Bytes with their count before them, at the front of `out`; returns the count.
-fn read_bytes(out: &mut [u8]) -> usize
+fn read_bytes(rt: HostRuntime, out: &mut [u8]) -> usize
     requires { length out.old ≡ 66000 }
     ensures { (result ≤ 66000) × (length out.new ≡ 66000) }
 {
-    let m = number(66000);
+    let m = number(rt, 66000);
     let mut digits = [0u8; 132000];
     let end = 2 * m;
-    read(&mut digits[0..end], &mut out[0..m]);
+    read(rt, &mut digits[0..end], &mut out[0..m]);
     m
 }
 
 // The n bytes of the text, altered; returns how many they are then.
-fn alter(text: &mut [u8], n: usize) -> usize
+fn alter(rt: HostRuntime, text: &mut [u8], n: usize) -> usize
     requires { (length text.old ≡ 106000) × (n ≤ 106000) }
     ensures { (result ≤ 106000) × (length text.new ≡ 106000) }
 {
-    let a = number(n);
-    let b = a + number(n - a);
+    let a = number(rt, n);
+    let b = a + number(rt, n - a);
     let mut put = [0u8; 66000];
-    let m = read_bytes(&mut put);
-    next();
+    let m = read_bytes(rt, &mut put);
+    next(rt);
     replace(text, n, a, b, &put[0..m])
 }
 
-fn write_line(line: &[u8], end: usize) {
+fn write_line(rt: HostRuntime, line: &[u8], end: usize) {
     if end <= line.len() {
-        io::write_all(STDOUT_FILENO, &line[0..end]);
+        stdio::write(rt, &line[0..end]);
     }
 }
 
-fn answer_card(text: &[u8]) {
+fn answer_card(rt: HostRuntime, text: &[u8]) {
     let line = print_card::print_card(text);
     let bytes = line.bytes;
-    write_line(&bytes, line.length);
+    write_line(rt, &bytes, line.length);
 }
 
-fn answer_request(text: &[u8]) {
+fn answer_request(rt: HostRuntime, text: &[u8]) {
     let mut card = room();
     let end = requests::print_request(text, &mut card);
     if end <= 120 {
-        write_line(&card, end);
+        write_line(rt, &card, end);
         return;
     }
-    write_line(&card, 120);
-    io::write_all(STDOUT_FILENO, b"\n");
+    write_line(rt, &card, 120);
+    stdio::write(rt, b"\n");
 }
 
-fn answer_pair(text: &[u8]) {
+fn answer_pair(rt: HostRuntime, text: &[u8]) {
     let mut public = [0u8; 32];
     let verdict = verdict::verdict(pairs::make_pair(text, &mut public));
     let mut line = [0u8; 65];
     let end = pairs::print_pair(verdict, &public, 300, &mut line);
-    write_line(&line, end);
+    write_line(rt, &line, end);
 }
 
-fn answer(kind: u8, text: &[u8]) {
-    next();
+fn answer(rt: HostRuntime, kind: u8, text: &[u8]) {
+    next(rt);
     if kind == b'c' {
-        answer_card(text);
+        answer_card(rt, text);
     } else if kind == b'r' {
-        answer_request(text);
+        answer_request(rt, text);
     } else {
-        answer_pair(text);
+        answer_pair(rt, text);
     }
 }
 
@@ -170,36 +168,36 @@ fn restore(whole: &[u8], text: &mut [u8], n: usize) -> Counts
 }
 
 // A line of this kind.
-fn step(kind: u8, whole: &mut [u8], text: &mut [u8], counts: Counts) -> Counts
+fn step(rt: HostRuntime, kind: u8, whole: &mut [u8], text: &mut [u8], counts: Counts) -> Counts
     requires { (length whole.old ≡ 106000) × (length text.old ≡ 106000) × (counts.whole ≤ 106000) × (counts.now ≤ 106000) }
     ensures { (result.whole ≤ 106000) × (result.now ≤ 106000) }
 {
     let n = counts.now;
     if kind == b'b' {
-        let long = read_text(whole);
+        let long = read_text(rt, whole);
         return restore(whole, text, long);
     }
     if kind == b's' {
-        let altered = alter(text, n);
+        let altered = alter(rt, text, n);
         return Counts {
             whole: counts.whole,
             now: altered,
         };
     }
-    answer(kind, &text[0..n]);
+    answer(rt, kind, &text[0..n]);
     restore(whole, text, counts.whole)
 }
 
-fn main() {
+fn main(rt: HostRuntime) {
     let mut whole = room();
     let mut text = room();
     let mut counts = Counts { whole: 0, now: 0 };
     for _ in 0..2000usize {
-        let kind = next();
+        let kind = next(rt);
         if kind == 0 {
             return;
         }
-        let then = step(kind, &mut whole, &mut text, counts);
+        let then = step(rt, kind, &mut whole, &mut text, counts);
         counts = then;
     }
 }

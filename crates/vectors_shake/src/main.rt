@@ -4,8 +4,6 @@
 
 ghost use Rattle.std.specs.Prelude.{◌≡◌, ◌*◌, ◌<◌, ◌≤◌, length};
 
-use libc::STDOUT_FILENO;
-
 // The message: byte i is 7 (i + i / 256) modulo 256.
 fn fill(input: &mut [u8]) {
     for i in 0..input.len() {
@@ -13,26 +11,25 @@ fn fill(input: &mut [u8]) {
     }
 }
 
-fn write(s: &[u8], text: &mut [u8])
+fn write(rt: HostRuntime, s: &[u8], text: &mut [u8])
     requires { length text.old ≡ 2 * length s.now }
 {
     hex_digits::encode(s, text);
-    io::write_all(STDOUT_FILENO, text);
+    stdio::write(rt, text);
 }
 
 // Two digits a byte.
-fn print(s: &[u8])
+fn print(rt: HostRuntime, s: &[u8])
     requires { length s.now ≤ 700 }
 {
     let mut text = [0u8; 1400];
     let end = 2 * s.len();
-    write(s, &mut text[0..end]);
+    write(rt, s, &mut text[0..end]);
 }
 
 // n in decimal, and a space.
-fn write_number(n: usize) {
-    io::print_decimal(STDOUT_FILENO, n as u64);
-    io::write_all(STDOUT_FILENO, b" ");
+fn write_number(rt: HostRuntime, n: usize) {
+    let _ = print!(rt; "{n} ");
 }
 
 // src absorbed in pieces of `piece` bytes.
@@ -51,56 +48,56 @@ fn pieces(src: &[u8], piece: usize) -> stream::Sponge
 }
 
 // The next bytes of output, in hex.
-fn squeeze_hex(s: stream::Sponge, out: &mut [u8]) -> stream::Sponge
+fn squeeze_hex(rt: HostRuntime, s: stream::Sponge, out: &mut [u8]) -> stream::Sponge
     requires { length out.old ≤ 700 }
 {
     let t = squeeze::squeeze(s, out);
-    print(out);
+    print(rt, out);
     t
 }
 
 // The line for the first len bytes of the message and n bytes of output, squeezed in two pieces.
-fn show(len: usize, piece: usize, n: usize)
+fn show(rt: HostRuntime, len: usize, piece: usize, n: usize)
     requires { (len ≤ 100000) × (0 < piece) × (piece ≤ 100000) × (n ≤ 700) }
 {
     let mut input = [0u8; 100000];
     fill(&mut input);
-    write_number(len);
-    write_number(piece);
-    write_number(n);
+    write_number(rt, len);
+    write_number(rt, piece);
+    write_number(rt, n);
     let s = pieces(&input[0..len], piece);
     let f = absorb::finish(s);
     let mut first = [0u8; 700];
     let mut second = [0u8; 700];
     let third = n / 3;
-    let g = squeeze_hex(f, &mut first[0..third]);
-    squeeze_hex(g, &mut second[third..n]);
-    io::write_all(STDOUT_FILENO, b"\n");
+    let g = squeeze_hex(rt, f, &mut first[0..third]);
+    squeeze_hex(rt, g, &mut second[third..n]);
+    stdio::write(rt, b"\n");
 }
 
 // NIST's example of 1,600 bits: 200 bytes of a3, and 512 bytes of output.
-fn show_example() {
+fn show_example(rt: HostRuntime) {
     let input = [0xa3u8; 200];
     let mut out = [0u8; 512];
     sponge::digest(&input, &mut out);
-    print(&out);
-    io::write_all(STDOUT_FILENO, b"\n");
+    print(rt, &out);
+    stdio::write(rt, b"\n");
 }
 
-fn main() {
-    show(0, 1, 1);
-    show(0, 1, 32);
-    show(166, 1, 32);
-    show(167, 50, 168);
-    show(168, 168, 169);
-    show(169, 13, 336);
-    show(170, 3, 167);
-    show(335, 167, 337);
-    show(336, 168, 1);
-    show(337, 8, 656);
-    show(1000, 999, 700);
-    show(1000, 7, 380);
-    show(100000, 1000, 32);
-    show(100000, 9973, 336);
-    show_example();
+fn main(rt: HostRuntime) {
+    show(rt, 0, 1, 1);
+    show(rt, 0, 1, 32);
+    show(rt, 166, 1, 32);
+    show(rt, 167, 50, 168);
+    show(rt, 168, 168, 169);
+    show(rt, 169, 13, 336);
+    show(rt, 170, 3, 167);
+    show(rt, 335, 167, 337);
+    show(rt, 336, 168, 1);
+    show(rt, 337, 8, 656);
+    show(rt, 1000, 999, 700);
+    show(rt, 1000, 7, 380);
+    show(rt, 100000, 1000, 32);
+    show(rt, 100000, 9973, 336);
+    show_example(rt);
 }
