@@ -1,4 +1,4 @@
-// The calls for C and Rust: a slice is a pointer and a length, and an answer is one number. include/banquet.h says it to a C programmer.
+// The calls with an answer that is one number. Crate `capi_c` exports them for C and Rust.
 #![tactic(auto)]
 
 ghost use Rattle.std.specs.Prelude.{◌≡◌, [], ◌∷◌};
@@ -8,8 +8,7 @@ ghost use Rattle.banquet.specs.Card.{verify_card};
 ghost use Rattle.verdict.specs.Code.{told, told_written, told_checked, told_made};
 
 // Makes a public key.
-#[unsafe(no_mangle)]
-pub extern "C" fn banquet_public_key(key: &[u8], plaintext: &[u8], out: &mut [u8]) -> u32
+pub fn banquet_public_key(key: &[u8], plaintext: &[u8], out: &mut [u8]) -> u32
     ensures { told result (out.new ∷ [])
         ≡ told_written (make_public_key base_scheme key.now plaintext.now out.old) }
 {
@@ -17,8 +16,7 @@ pub extern "C" fn banquet_public_key(key: &[u8], plaintext: &[u8], out: &mut [u8
 }
 
 // Signs a message.
-#[unsafe(no_mangle)]
-pub extern "C" fn banquet_sign(
+pub fn banquet_sign(
     key: &[u8],
     public: &[u8],
     message: &[u8],
@@ -35,13 +33,7 @@ pub extern "C" fn banquet_sign(
 }
 
 // Checks a signature.
-#[unsafe(no_mangle)]
-pub extern "C" fn banquet_verify(
-    public: &[u8],
-    message: &[u8],
-    signature: &[u8],
-    work: &mut [u8],
-) -> u32
+pub fn banquet_verify(public: &[u8], message: &[u8], signature: &[u8], work: &mut [u8]) -> u32
     ensures { told result (work.new ∷ [])
         ≡ told_checked (verify base_scheme public.now message.now signature.now work.old) }
 {
@@ -49,8 +41,7 @@ pub extern "C" fn banquet_verify(
 }
 
 // Opens one execution under given challenges.
-#[unsafe(no_mangle)]
-pub extern "C" fn banquet_open(
+pub fn banquet_open(
     key: &[u8],
     public: &[u8],
     salt: &[u8],
@@ -81,8 +72,7 @@ pub extern "C" fn banquet_open(
 }
 
 // Checks an opening.
-#[unsafe(no_mangle)]
-pub extern "C" fn banquet_verify_opening(public: &[u8], opening: &[u8], work: &mut [u8]) -> u32
+pub fn banquet_verify_opening(public: &[u8], opening: &[u8], work: &mut [u8]) -> u32
     ensures { told result (work.new ∷ [])
         ≡ told_checked (verify_opening base_scheme public.now opening.now work.old) }
 {
@@ -90,8 +80,7 @@ pub extern "C" fn banquet_verify_opening(public: &[u8], opening: &[u8], work: &m
 }
 
 // Checks a card given as text.
-#[unsafe(no_mangle)]
-pub extern "C" fn banquet_verify_card(text: &[u8], work: &mut [u8]) -> u32
+pub fn banquet_verify_card(text: &[u8], work: &mut [u8]) -> u32
     ensures { told result (work.new ∷ []) ≡ told_checked (verify_card base_scheme text.now work.old) }
 {
     verdict::code(card_text::verify_card(text, work))
