@@ -10,4 +10,4 @@ pub front_spec : {M : Type 1} → statement M
 front_spec =
     tie.close
     (tie.spec (λ c. search rules) (λ c. search rules) (λ c. search rules)
-    (λ c. let a = c.before.args in ap (λ n. take n a.public.now) (sub-zero a.shape.front)))
+    (λ c. let a = c.args in ap (λ n. take n a.public.now) (sub-zero a.shape.front)))
