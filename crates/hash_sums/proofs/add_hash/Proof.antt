@@ -5,10 +5,10 @@ use Rattle.hash_sums.proofs.add_hash.Tie as tie
 
 returns : tie.Need-returns
 returns c =
-    let x = c.before.before in
-    let h = x.before.before.before.before.before in
-    let s = h.before.before.before.before.before.before in
-    rw (← s.requires.2, ← h.hash.ensures) x.xor-into.ensures
+    let x = c in
+    let h = x in
+    let s = h in
+    rw (← s.requires.2, ← h.hash.ensures) x.xor_into.ensures
 
 pub add_hash_spec : {M : Type 1} → statement M
 add_hash_spec =

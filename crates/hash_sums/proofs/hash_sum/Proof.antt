@@ -12,40 +12,40 @@ use Rattle.row_sums.proofs.Laws.{Summing, summing_none, summing_more, summing_al
 use Rattle.hash_sums.proofs.hash_sum.Statement.{statement}
 use Rattle.hash_sums.proofs.hash_sum.Tie as tie
 
-abbrev invariant-loop : tie.invariant-loop
+abbrev invariant-loop : tie.invariant-loop-i
 invariant-loop tag salt e n seeds out₀ len scratch₀ i₀ out scratch i =
     (i ≤ n) × (length scratch ≡ 512) × Summing (λ i. party_hash tag salt e i (row 16 i seeds) len) len i out
 
-abbrev decreases-loop : tie.decreases-loop
+abbrev decreases-loop : tie.decreases-loop-i
 decreases-loop tag salt e n seeds out₀ len scratch₀ i₀ out scratch i = n - i
 
 -- ---- earlier moments
 
-abbrev loop-before-slice-known3 : tie.After-slice-known3 invariant-loop decreases-loop → tie.At-loop invariant-loop decreases-loop
+abbrev loop-before-slice-known3 : tie.After-slice_known-in-loop-i-1 invariant-loop decreases-loop → tie.At-loop-i invariant-loop decreases-loop
 loop-before-slice-known3 c = c.before.before.before.before.before.before.before.before
 
-abbrev start : tie.At-loop invariant-loop decreases-loop → tie.Start invariant-loop decreases-loop
+abbrev start : tie.At-loop-i invariant-loop decreases-loop → tie.Start invariant-loop decreases-loop
 start k = k.before.before.before.before.before.before.before.before
 
-loop-holds : tie.Need-loop-init invariant-loop decreases-loop
-loop-holds c = (search rules, search rules, summing_none c.before.before.zero.ensures)
+loop-holds : tie.Need-loop-i-init invariant-loop decreases-loop
+loop-holds c = (search rules, search rules, summing_none c.zero.ensures)
 
-loop-again : tie.Need-loop-preserved invariant-loop decreases-loop
+loop-again : tie.Need-loop-i-preserved invariant-loop decreases-loop
 loop-again c =
-    let h = c.before.before.before.add-hash in
+    let h = c.add_hash in
     let k = loop-before-slice-known3 c in
     let a = (start k).args in
-    let i = k.loop.i in
+    let i = k.loop-i.i in
     let len = length a.out.now in
-    let s = k.loop.inv.2 in (
+    let s = k.loop-i.invariant.2 in (
       omega arith,
-      same_len_mid 0 (len - 0) k.loop.scratch h.new.1.1.1.1.1.0 h.auto.1.1.1.1.1.0 ∙ k.loop.inv.1,
+      same_len_mid 0 (len - 0) k.loop-i.scratch h.new.scratch h.auto.scratch ∙ k.loop-i.invariant.1,
       summing_more s (row_hashed a.tag a.salt.now a.e i a.seeds.now s.long refl)
           (length_hash a.tag a.salt.now a.e i (row 16 i a.seeds.now) len) h.ensures,
     )
 
 returns : tie.Need-returns invariant-loop decreases-loop
-returns c = summing_all c.before.loop.invariant.2 (omega arith) (start c.before).pre.1
+returns c = summing_all c.loop-i.invariant.2 (omega arith) (start c.before).requires.1
 
 pub hash_sum_spec : {M : Type 1} → statement M
 hash_sum_spec =
