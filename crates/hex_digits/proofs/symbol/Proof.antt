@@ -7,49 +7,49 @@ use Rattle.hex_digits.proofs.symbol.Statement.{statement}
 use Rattle.hex_digits.proofs.symbol.Tie as tie
 
 -- the line end
-returns : tie.Need-returns
+returns : tie.Need-returns-in-10
 unfolding symbol_of
-returns c = rw c.match.keys1
+returns c = rw c.in-10.is
 
 -- 0 to 9
-returns-2 : tie.Need-returns-2
+returns-2 : tie.Need-returns-in-48-to-57
 unfolding symbol_of
 returns-2 c =
-    let b = c.before.before.before.args.byte in
+    let b = c.args.byte in
     simp (le-leb 0x30 b (omega arith), le-leb b 0x39 (omega arith))
 
 -- a to f
-returns-3 : tie.Need-returns-3
+returns-3 : tie.Need-returns-in-97-to-102
 unfolding symbol_of
 returns-3 c =
-    let b = c.before.before.before.before.before.args.byte in
+    let b = c.args.byte in
     simp (le-leb 0x30 b (omega arith), lt-leb b 0x39 (omega arith), le-leb 0x61 b (omega arith), le-leb b 0x66 (omega arith))
 
 -- below 0
-returns-4 : tie.Need-returns-4
+returns-4 : tie.Need-returns-in_default
 unfolding symbol_of
 returns-4 c =
-    let b = c.before.before.args.byte in
-    simp (lt-leb 0x30 b (omega arith), lt-leb 0x61 b (omega arith), ne_eqb b 0x0a c.before.match.rest.1)
+    let b = c.args.byte in
+    simp (lt-leb 0x30 b (omega arith), lt-leb 0x61 b (omega arith), ne_eqb b 0x0a c.in_default.in_default-own.rest.1)
 
 -- between 9 and a
-returns-5 : tie.Need-returns-5
+returns-5 : tie.Need-returns-in_default-2
 unfolding symbol_of
 returns-5 c =
-    let b = c.before.before.before.before.args.byte in
-    simp (le-leb 0x30 b (omega arith), lt-leb b 0x39 (omega arith), lt-leb 0x61 b (omega arith), ne_eqb b 0x0a c.before.before.before.match.rest.1)
+    let b = c.args.byte in
+    simp (le-leb 0x30 b (omega arith), lt-leb b 0x39 (omega arith), lt-leb 0x61 b (omega arith), ne_eqb b 0x0a c.in_default.in_default-own.rest.1)
 
 -- above f
-returns-6 : tie.Need-returns-6
+returns-6 : tie.Need-returns-in_default-3
 unfolding symbol_of
 returns-6 c =
-    let b = c.before.before.before.before.before.args.byte in
+    let b = c.args.byte in
     simp (
       le-leb 0x30 b (omega arith),
       lt-leb b 0x39 (omega arith),
       le-leb 0x61 b (omega arith),
       lt-leb b 0x66 (omega arith),
-      ne_eqb b 0x0a c.before.before.before.before.match.rest.1,
+      ne_eqb b 0x0a c.in_default.in_default-own.rest.1,
     )
 
 pub symbol_spec : {M : Type 1} → statement M

@@ -6,17 +6,17 @@ use Rattle.hex_digits.proofs.Laws.{value_is}
 use Rattle.hex_digits.proofs.value.Statement.{statement}
 use Rattle.hex_digits.proofs.value.Tie as tie
 
-returns : tie.Need-returns
+returns : tie.Need-returns-in-Value
 unfolding value_of
-returns c = value_is _ c.before.before.before.symbol.ensures c.before.found.given.1 refl
+returns c = value_is _ c.symbol-found.ensures c.in-Value.is refl
 
-returns-2 : tie.Need-returns-2
+returns-2 : tie.Need-returns-in-LineEnd
 unfolding value_of
-returns-2 c = value_is _ c.before.before.symbol.ensures c.enum_told.given.1 refl
+returns-2 c = value_is _ c.symbol-found.ensures c.in-LineEnd.is refl
 
-returns-3 : tie.Need-returns-3
+returns-3 : tie.Need-returns-in-Other
 unfolding value_of
-returns-3 c = value_is _ c.before.before.symbol.ensures c.enum-told2.given.1 refl
+returns-3 c = value_is _ c.symbol-found.ensures c.in-Other.is refl
 
 pub value_spec : {M : Type 1} → statement M
 value_spec =
