@@ -10,47 +10,47 @@ use Rattle.frames.proofs.Laws.{of_another_length, none_such, ends_within, framed
 use Rattle.frames.proofs.frame.Statement.{statement}
 use Rattle.frames.proofs.frame.Tie as tie
 
-module _ (w : tie.After-signature-length) where
+module _ (w : tie.After-signature_length) where
   abbrev start : tie.Start
   start = w.before.before.before
 
-  size_is : w.before.frame-length.result ≡ total (frame_sizes start.args.shape)
-  size_is = w.before.frame-length.ensures.0
+  size_is : w.before.frame_length-size.result ≡ total (frame_sizes start.args.shape)
+  size_is = w.frame_length-size.ensures.0
 
-returns : tie.Need-returns
+returns : tie.Need-returns-then-s-signature_length
 returns c =
-    let t = c.before in
-    let w = t.before in
+    let t = c in
+    let w = t.before.before in
     let s = start w in
-    of_another_length s.args.shape s.args.s.now s.args.e w.signature-length.ensures.0 (size_is w) t.if1.true
+    of_another_length s.args.shape s.args.s.now s.args.e w.signature_length.ensures.0 (size_is w) t.if-s-signature_length.true
 
-returns-2 : tie.Need-returns-2
+returns-2 : tie.Need-returns-then-e-shape
 returns-2 c =
-    let t = c.before in
-    let l = t.before.before in
-    let w = l.before in
+    let t = c in
+    let l = t in
+    let w = l.before.before.before.before in
     let s = start w in
-    none_such s.args.shape s.args.s.now s.args.e w.signature-length.ensures.0 (size_is w) l.if1.false t.if2.true
+    none_such s.args.shape s.args.s.now s.args.e w.signature_length.ensures.0 (size_is w) l.if-s-signature_length.false t.if-e-shape.true
 
 -- frame e ends within the signature
-module _ (c : tie.Else2) where
-  abbrev lengths : tie.Else1
+module _ (c : tie.Else-e-shape) where
+  abbrev lengths : tie.Else-s-signature_length
   lengths = c.before.before
 
-  fits : head_length + (start lengths.before).args.e * lengths.before.before.frame-length.result + lengths.before.before.frame-length.result
+  fits : head_length + (start lengths.before).args.e * lengths.before.before.frame_length-size.result + lengths.before.before.frame_length-size.result
       ≤ length (start lengths.before).args.s.now
   fits =
       let w = lengths.before in
       let s = start w in
-      ends_within s.args.shape s.args.s.now s.args.e w.signature-length.ensures.0 (size_is w) lengths.if1.left c.if2.false
+      ends_within s.args.shape s.args.s.now s.args.e w.signature_length.ensures.0 (size_is w) lengths.if-s-signature_length.false c.if-e-shape.false
 
-returns-3 : tie.Need-returns-3
+returns-3 : tie.Need-returns
 returns-3 c =
     let t = c.before in
     let l = lengths t in
     let w = l.before in
     let s = start w in
-    framed s.args.shape s.args.s.now s.args.e w.signature-length.ensures.0 (size_is w) l.if1.left t.if2.false
+    framed s.args.shape s.args.s.now s.args.e w.signature_length.ensures.0 (size_is w) l.if-s-signature_length.false t.if-e-shape.false
 
 pub frame_spec : {M : Type 1} → statement M
 frame_spec =

@@ -9,14 +9,14 @@ use Rattle.frames.proofs.offset.Tie as tie
 
 offset-requires : tie.Need-offset-requires
 offset-requires c κs =
-    let s = c.before.before in
-    let e = c.before.frame-sizes.ensures in
+    let s = c in
+    let e = c.frame_sizes.ensures in
     (rw e (omega (arith, s.requires.1)), sizes_fit e (frame_most s.requires.0) (lit< tt))
 
 returns : tie.Need-returns
 returns c =
-    let s = c.before.before.before in
-    offset_is c.before.before.frame-sizes.ensures (frame_most s.requires.0) s.args.k c.offset.ensures
+    let s = c in
+    offset_is c.frame_sizes.ensures (frame_most s.requires.0) s.args.k c.offset.ensures
 
 pub offset_spec : {M : Type 1} → statement M
 offset_spec = tie.close (tie.spec (λ c κs. search rules) (λ c. search rules) offset-requires returns)

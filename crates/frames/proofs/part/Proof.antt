@@ -9,13 +9,13 @@ use Rattle.frames.proofs.part.Tie as tie
 
 field-requires : tie.Need-field-requires
 field-requires c κs =
-    let s = c.before.before.before in
-    rw c.before.frame-sizes.ensures (omega (arith, s.requires.1), omega (arith, s.requires.2), omega (arith, frame_most s.requires.0))
+    let s = c in
+    rw c.frame_sizes-sizes.ensures (omega (arith, s.requires.1), omega (arith, s.requires.2), omega (arith, frame_most s.requires.0))
 
 returns : tie.Need-returns
 returns c =
-    let s = c.before.before.before.before in
-    c.field.ensures ∙ ap (λ sizes. field sizes s.args.k s.args.frame.now) c.before.before.frame-sizes.ensures
+    let s = c in
+    c.field.ensures ∙ ap (λ sizes. field sizes s.args.k s.args.frame.now) c.frame_sizes-sizes.ensures
 
 pub part_spec : {M : Type 1} → statement M
 part_spec = tie.close (tie.spec (λ c κs. search rules) (λ c. search rules) field-requires returns)

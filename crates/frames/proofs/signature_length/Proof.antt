@@ -9,16 +9,16 @@ use Rattle.frames.specs.Frames.{frames_most}
 use Rattle.frames.proofs.signature_length.Statement.{statement}
 use Rattle.frames.proofs.signature_length.Tie as tie
 
-module _ (f : tie.After-frame-length) where
+module _ (f : tie.After-frame_length) where
   abbrev start : tie.Start
   start = f.before
 
   -- all frames
-  frames : start.args.shape.executions * f.frame-length.result ≡ start.args.shape.executions * total (frame_sizes start.args.shape)
-  frames = ap (start.args.shape.executions *◌) f.frame-length.ensures.0
+  frames : start.args.shape.executions * f.frame_length.result ≡ start.args.shape.executions * total (frame_sizes start.args.shape)
+  frames = ap (start.args.shape.executions *◌) f.frame_length.ensures.0
 
-  most : start.args.shape.executions * f.frame-length.result ≤ 25092
-  most = rw frames (frames_most start.pre)
+  most : start.args.shape.executions * f.frame_length.result ≤ 25092
+  most = rw frames (frames_most start.requires)
 
 pub signature_length_spec : {M : Type 1} → statement M
 signature_length_spec =
