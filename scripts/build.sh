@@ -27,22 +27,37 @@ closure() {
             seen[name] = 1
             count = split(stands_on[name], names, " ")
             for (i = 1; i <= count; i++) visit(names[i])
-            print name ":" stands_on[name]
+            print head[name] ":" stands_on[name]
         }
         { sub(/#.*/, "") }
-        /:/ { name = substr($0, 1, index($0, ":") - 1); stands_on[name] = substr($0, index($0, ":") + 1) }
+        /:/ {
+            # a word behind the name says that the crate is a static library
+            at = index($0, ":"); split(substr($0, 1, at - 1), words, " ")
+            head[words[1]] = substr($0, 1, at - 1); stands_on[words[1]] = substr($0, at + 1)
+        }
         END { visit(ENVIRON["CRATE"]) }' "$root/crates.txt"
 }
+
+# names CRATE: the names of these crates, a line each
+names() { closure "$1" | sed 's/[ :].*//'; }
 
 # sources CRATE: one sum of all sources that a crate stands on, and of what crates.txt says of these
 sources() {
     (
         cd "$root" || exit
         closure "$1"
-        closure "$1" | sed 's/:.*//; s,^,crates/,' |
-            xargs sh -c 'find "$@" \( -path "*/src/*" -o -path "*/specs/*" -o -path "*/proofs/*" \) -type f ! -name ".*" -print0' sh |
+        names "$1" | sed 's,.*,crates/&/src crates/&/specs crates/&/proofs,' |
+            xargs sh -c 'for folder; do [ ! -d "$folder" ] || find "$folder" -type f ! -name ".*" -print0; done' sh |
             sort -z | xargs -0 sha256sum --
     ) | sha256sum
+}
+
+# made CRATE FILE: the file in which rt leaves the program or, for a file that ends in .a, the library
+made() { case "$2" in *.a) echo "$root/crates/$1/out/lib$1.a" ;; *) echo "$root/crates/$1/out/$1" ;; esac; }
+
+# take CRATE FILE: copies what rt has just made to where it is wanted
+take() {
+    mkdir -p "$root/${2%/*}" && rm -f "$root/$2" && cp "$(made "$1" "$2")" "$root/$2" && chmod go+rX,go-w "$root/$2"
 }
 
 # record CRATE FILE SOURCES: a file was proved and written just now, of sources that had this sum when that began and still have it
@@ -60,46 +75,42 @@ is_built() {
         [ "$(sources "$1"; sha256sum < "$root/$2")" = "$(< "$root/target/built/$1")" ]
 }
 
-# progress TOTAL: of what `rt check` prints, a line for each crate that is proved, and for one that is not the name of its log
+# progress CRATE LOG: of what rt prints, a line for each crate that is proved, and for one that is not the name of the log
 progress() {
-    local line count=0
+    local line total crate='' known=''
+    total=$(names "$1" | wc -l)
     while IFS= read -r line; do
         case "$line" in
-        'rt: '*' proved (unchanged'*) count=$((count + 1)) ;;
-        'rt: '*' proved ('*)
-            count=$((count + 1))
-            line="${line#rt: }"
-            say "$count of $1 proved: ${line/ proved/}"
+        'crate '*': modules '*)
+            crate="${line#crate }"
+            crate="${crate%%:*}"
             ;;
-        'rt: '*' NOT PROVED: its dependency '*) ;;
-        'rt: '*' NOT PROVED'*)
-            line="${line#rt: }"
-            say "${line%% *} is not proved: $root/target/log/${line%% *}.out says why"
+        'logic=proved '*)
+            [ -n "$crate" ] || continue
+            # what it stands on is proved, too: of that which is unchanged nothing is printed
+            known="$({ printf '%s\n' "$known"; names "$crate"; } | sort -u | sed '/^$/d')"
+            say "$(printf '%s\n' "$known" | wc -l) of $total proved: $crate"
+            crate=''
             ;;
-        'rt: '*FAILED*) say "${line#rt: }" ;;
+        logic=not-proved*)
+            [ -z "$crate" ] || say "$crate is not proved: $2 says why"
+            crate=''
+            ;;
         esac
     done
 }
 
-# prove CRATE: proves a crate with all that it stands on
+# prove CRATE FILE: proves a crate with all that it stands on, and has rt write the program, which is also run on an empty text, or the library
 prove() {
-    local total status log="$root/target/built/$1.log"
-    total=$(closure "$1" | wc -l)
+    local total status verb=run log="$root/target/built/$1.log"
+    [ "${2%.a}" = "$2" ] || verb=lib
+    total=$(names "$1" | wc -l)
     say "$1 is not built, or its sources have changed: proving the $total crates that it stands on, which from nothing takes some minutes"
-    (cd "$root" && exec rt check "$1") < /dev/null 2>&1 | tee "$log" | progress "$total"
+    rm -f "$(made "$1" "$2")" # what rt finds built it doesn't write again
+    (cd "$root/crates/$1" && exec rt "$verb") < /dev/null 2>&1 | tee "$log" | progress "$1" "$log"
     status="${PIPESTATUS[0]}"
     [ "$status" -eq 0 ] || say "$1 was not built; $log has all that was said"
     return "$status"
-}
-
-# archive CRATE: the static library of a crate that is proved
-archive() {
-    local log="$root/target/built/$1.log"
-    say "writing the library of $1, some seconds more"
-    (cd "$root" && exec rt staticlib "$1") < /dev/null > "$log" 2>&1 || {
-        say "the library of $1 was not built; $log has all that was said"
-        return 1
-    }
 }
 
 # build CRATE FILE: proves and builds a program or, into a file that ends in .a, a library, where it isn't built; fails, having said why, where it can't
@@ -126,8 +137,6 @@ build() {
         is_built "$1" "$2" && exit
         of="$(sources "$1")"
         rm -f "$root/$2"
-        # a program that rt finds proved it doesn't write again
-        [ "${2%.a}" != "$2" ] || rm -f "$root/target/stamp/$1"
-        prove "$1" && { [ "${2%.a}" = "$2" ] || archive "$1"; } && record "$1" "$2" "$of"
+        prove "$1" "$2" && take "$1" "$2" && record "$1" "$2" "$of"
     )
 }

@@ -18,7 +18,7 @@ fn main() {
     println!("cargo::rerun-if-changed={}", archive.display());
     if !archive.is_file() {
         println!(
-            "cargo::error=there is no {}: run `rt staticlib capi` in the repository's root, \
+            "cargo::error=there is no {}: run `make` in the repository's root, \
              or name the folder of libcapi.a in BANQUET_LIB (an absolute path)",
             archive.display()
         );
