@@ -18,7 +18,7 @@ DESTDIR =
 CC = gcc
 
 # Proves and builds the archive, or leaves it where its sources are those that it was built of.
-build = bash -c 'root="$$PWD" self=make && source scripts/build.sh && build capi_c target/staticlib/libcapi.a'
+build = bash -c 'root="$$PWD" self=make && source scripts/build.sh && build capi target/staticlib/libcapi.a'
 archive = "$${BANQUET_LIB:-target/staticlib}/libcapi.a"
 installed = "$$DESTDIR$$LIBDIR/libbanquet.a" "$$DESTDIR$$INCLUDEDIR/banquet.h" "$$DESTDIR$$LIBDIR/pkgconfig/banquet.pc"
 version := $(shell sed -n '/^version = "/ { s///; s/"$$//p; q; }' rust/banquet/Cargo.toml)

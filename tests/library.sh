@@ -17,6 +17,6 @@ if [ -n "${BANQUET_LIB:-}" ]; then
     say "the library is $BANQUET_LIB/libcapi.a"
 else
     BANQUET_LIB="$root/target/staticlib"
-    build capi_c target/staticlib/libcapi.a || exit 2
+    build capi target/staticlib/libcapi.a || exit 2
 fi
 export BANQUET_LIB

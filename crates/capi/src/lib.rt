@@ -1,4 +1,4 @@
-// The calls with an answer that is one number. Crate `capi_c` exports them for C and Rust.
+// The calls for C and Rust: a slice is a pointer and a length, and an answer is one number. include/banquet.h says it to a C programmer.
 #![tactic(auto)]
 
 ghost use Rattle.std.specs.Prelude.{◌≡◌, [], ◌∷◌};
@@ -8,7 +8,8 @@ ghost use Rattle.banquet.specs.Card.{verify_card};
 ghost use Rattle.verdict.specs.Code.{told, told_written, told_checked, told_made};
 
 // Makes a public key.
-pub fn banquet_public_key(key: &[u8], plaintext: &[u8], out: &mut [u8]) -> u32
+#[unsafe(no_mangle)]
+pub extern "C" fn banquet_public_key(key: &[u8], plaintext: &[u8], out: &mut [u8]) -> u32
     ensures { told result (out.new ∷ [])
         ≡ told_written (make_public_key base_scheme key.now plaintext.now out.old) }
 {
@@ -16,7 +17,8 @@ pub fn banquet_public_key(key: &[u8], plaintext: &[u8], out: &mut [u8]) -> u32
 }
 
 // Signs a message.
-pub fn banquet_sign(
+#[unsafe(no_mangle)]
+pub extern "C" fn banquet_sign(
     key: &[u8],
     public: &[u8],
     message: &[u8],
@@ -33,7 +35,13 @@ pub fn banquet_sign(
 }
 
 // Checks a signature.
-pub fn banquet_verify(public: &[u8], message: &[u8], signature: &[u8], work: &mut [u8]) -> u32
+#[unsafe(no_mangle)]
+pub extern "C" fn banquet_verify(
+    public: &[u8],
+    message: &[u8],
+    signature: &[u8],
+    work: &mut [u8],
+) -> u32
     ensures { told result (work.new ∷ [])
         ≡ told_checked (verify base_scheme public.now message.now signature.now work.old) }
 {
@@ -41,7 +49,8 @@ pub fn banquet_verify(public: &[u8], message: &[u8], signature: &[u8], work: &mu
 }
 
 // Opens one execution under given challenges.
-pub fn banquet_open(
+#[unsafe(no_mangle)]
+pub extern "C" fn banquet_open(
     key: &[u8],
     public: &[u8],
     salt: &[u8],
@@ -72,7 +81,8 @@ pub fn banquet_open(
 }
 
 // Checks an opening.
-pub fn banquet_verify_opening(public: &[u8], opening: &[u8], work: &mut [u8]) -> u32
+#[unsafe(no_mangle)]
+pub extern "C" fn banquet_verify_opening(public: &[u8], opening: &[u8], work: &mut [u8]) -> u32
     ensures { told result (work.new ∷ [])
         ≡ told_checked (verify_opening base_scheme public.now opening.now work.old) }
 {
@@ -80,7 +90,8 @@ pub fn banquet_verify_opening(public: &[u8], opening: &[u8], work: &mut [u8]) ->
 }
 
 // Checks a card given as text.
-pub fn banquet_verify_card(text: &[u8], work: &mut [u8]) -> u32
+#[unsafe(no_mangle)]
+pub extern "C" fn banquet_verify_card(text: &[u8], work: &mut [u8]) -> u32
     ensures { told result (work.new ∷ []) ≡ told_checked (verify_card base_scheme text.now work.old) }
 {
     verdict::code(card_text::verify_card(text, work))
