@@ -8,12 +8,12 @@ use Rattle.opening_sizes.proofs.opening_length.Tie as tie
 
 returns : tie.Need-returns
 returns c =
-    let t = c.before in
-    let s = t.before in
-    (ap (λ n. n + (1 + s.args.shape.depth * 16)) t.transcript-length.ensures.0, omega (arith, t.transcript-length.ensures.1, s.requires.shallow))
+    let t = c in
+    let s = t in
+    (ap (λ n. n + (1 + s.args.shape.depth * 16)) t.transcript_length.ensures.0, omega (arith, t.transcript_length.ensures.1, s.requires.shallow))
 
 pub opening_length_spec : {M : Type 1} → statement M
 opening_length_spec =
     tie.close
     (tie.spec (λ c κs. search rules) (λ c. search rules) (λ c. search rules)
-    (λ c. omega (arith, c.before.transcript-length.ensures.1, c.before.before.requires.shallow)) returns)
+    (λ c. omega (arith, c.transcript_length.ensures.1, c.requires.shallow)) returns)
