@@ -1,0 +1,5 @@
+-- The depth falls.
+use Rattle.tree.proofs.+expand.Given as goal
+
+abbrev pub decreases-expand : goal.decreases-expand
+decreases-expand l = l.depth
