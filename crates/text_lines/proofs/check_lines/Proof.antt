@@ -4,52 +4,51 @@ use Prim.Native.Nat.{ℕ, ◌+◌, ◌-◌, ◌≤◌, ◌<◌}
 use native.Mathlib.Omega.{arith}
 use lib.ListN.{length}
 use borrow.Author.Rules.{rules}
-use borrow.Author.Tests.{not-true, not-false}
 use Rattle.banquet.specs.declared.Answer.TheVariants.{TextForm}
 use Rattle.text_lines.proofs.Found.{end_within}
 use Rattle.text_lines.proofs.Checked.{checked, check_end, check_more, unended, other_size, good_line}
 use Rattle.text_lines.proofs.check_lines.Statement.{statement}
 use Rattle.text_lines.proofs.check_lines.Tie as tie
 
-abbrev invariant-loop : tie.invariant-loop
+abbrev invariant-loop : tie.invariant-loop-i
 invariant-loop text sizes message at₀ i₀ i_end at i =
     (i_end ≡ length sizes) × (i ≤ length sizes) × (at ≤ length text) × (checked message sizes text 0 0 ≡ checked message sizes text i at)
 
-abbrev decreases-loop : tie.decreases-loop
+abbrev decreases-loop : tie.decreases-loop-i
 decreases-loop text sizes message at₀ i₀ i_end at i = length sizes - i
 
-abbrev start : tie.At-loop invariant-loop decreases-loop → tie.Start invariant-loop decreases-loop
+abbrev start : tie.At-loop-i invariant-loop decreases-loop → tie.Start invariant-loop decreases-loop
 start l = l.before.before.before
 
 -- where the line's end was found
-ends : (c : tie.After-line-end invariant-loop decreases-loop)
-    → (c.before.before.loop.at ≤ c.line-end.result) × (c.line-end.result ≤ length (start c.before.before).args.text.now)
-ends c = let l = c.before.before in end_within (start l).args.text.now l.loop.invariant.2 c.line-end.ensures
+ends : (c : tie.After-line_end-end invariant-loop decreases-loop)
+    → (c.before.before.loop-i.at ≤ c.line_end-end.result) × (c.line_end-end.result ≤ length (start c.before.before).args.text.now)
+ends c = let l = c.before.before in end_within (start l).args.text.now l.loop-i.invariant.2 c.line_end-end.ensures
 
-inside : (c : tie.Else1 invariant-loop decreases-loop) → c.before.line-end.result < length (start c.before.before.before).args.text.now
-inside c = omega (arith, ends c.before, c.if1.false)
+inside : (c : tie.Else-end-text invariant-loop decreases-loop) → c.before.line_end-end.result < length (start c.before.before.before).args.text.now
+inside c = omega (arith, ends c.before, c.if-end-text.false)
 
-loop-holds : tie.Need-loop-init invariant-loop decreases-loop
+loop-holds : tie.Need-loop-i-init invariant-loop decreases-loop
 loop-holds c = (refl, search rules, search rules, refl)
 
-returns : tie.Need-returns invariant-loop decreases-loop
+returns : tie.Need-returns-then-end-text invariant-loop decreases-loop
 returns c =
     let l = c.before.before.before in
     let a = (start l).args in
-    sym (l.loop.invariant.3
-    ∙ unended a.message a.sizes.now a.text.now l.loop.i l.loop.at c.before.before.loop-test.true l.loop.invariant.2
-    c.before.line-end.ensures c.if1.true)
+    sym (l.loop-i.invariant.3
+    ∙ unended a.message a.sizes.now a.text.now l.loop-i.i l.loop-i.at c.loop-i-test.true l.loop-i.invariant.2
+    c.line_end-end.ensures c.if-end-text.true)
 
-returns-2 : tie.Need-returns-2 invariant-loop decreases-loop
+returns-2 : tie.Need-returns-then-not-has_size invariant-loop decreases-loop
 returns-2 c =
     let q = c.before.before.before in
     let l = q.before.before.before in
     let a = (start l).args in
-    sym (l.loop.invariant.3
-    ∙ other_size a.message a.sizes.now a.text.now l.loop.i l.loop.at q.before.before.loop-test.true l.loop.invariant.2
-    q.before.line-end.ensures (inside q) (sym c.before.has-size.ensures ∙ not-true c.before.has-size.result c.if2.true))
+    sym (l.loop-i.invariant.3
+    ∙ other_size a.message a.sizes.now a.text.now l.loop-i.i l.loop-i.at q.loop-i-test.true l.loop-i.invariant.2
+    q.line_end-end.ensures (inside q) (sym c.has_size.ensures ∙ c.if-not-has_size.true))
 
-loop-again : tie.Need-loop-preserved invariant-loop decreases-loop
+loop-again : tie.Need-loop-i-preserved invariant-loop decreases-loop
 loop-again c =
     let q = c.before.before.before in
     let l = q.before.before.before in
@@ -57,33 +56,33 @@ loop-again c =
       refl,
       omega arith,
       omega (arith, inside q),
-      l.loop.invariant.3
-          ∙ good_line a.message a.sizes.now a.text.now l.loop.i l.loop.at q.before.before.loop-test.true
-          l.loop.invariant.2 q.before.line-end.ensures (inside q)
-          (sym c.before.has-size.ensures ∙ not-false c.before.has-size.result c.if2.false),
+      l.loop-i.invariant.3
+          ∙ good_line a.message a.sizes.now a.text.now l.loop-i.i l.loop-i.at q.loop-i-test.true
+          l.loop-i.invariant.2 q.line_end-end.ensures (inside q)
+          (sym c.has_size.ensures ∙ c.if-not-has_size.false),
     )
 
 -- no line is left
-returns-3 : tie.Need-returns-3 invariant-loop decreases-loop
+returns-3 : tie.Need-returns-then-at-text invariant-loop decreases-loop
 returns-3 c =
     let l = c.before.before in
     let a = (start l).args in
-    let e : l.loop.i ≡ length a.sizes.now = omega arith in
-    sym (l.loop.invariant.3
-    ∙ check_more a.message a.sizes.now a.text.now l.loop.i l.loop.at e l.loop.invariant.2 c.if3.true
+    let e : l.loop-i.i ≡ length a.sizes.now = omega arith in
+    sym (l.loop-i.invariant.3
+    ∙ check_more a.message a.sizes.now a.text.now l.loop-i.i l.loop-i.at e l.loop-i.invariant.2 c.if-at-text.true
     ∙ ap (λ (n : ℕ). TextForm (n + 1)) e)
 
-returns-4 : tie.Need-returns-4 invariant-loop decreases-loop
+returns-4 : tie.Need-returns invariant-loop decreases-loop
 returns-4 c =
     let l = c.before.before in
     let a = (start l).args in
-    let e : l.loop.i ≡ length a.sizes.now = omega arith in
-    sym (l.loop.invariant.3 ∙ check_end a.message a.sizes.now a.text.now l.loop.i l.loop.at e c.if3.false)
+    let e : l.loop-i.i ≡ length a.sizes.now = omega arith in
+    sym (l.loop-i.invariant.3 ∙ check_end a.message a.sizes.now a.text.now l.loop-i.i l.loop-i.at e c.if-at-text.false)
 
 pub check_lines_spec : {M : Type 1} → statement M
 check_lines_spec =
     tie.close
-    (tie.spec invariant-loop decreases-loop loop-holds (λ c κs. c.before.loop.invariant.2) (λ c. omega arith) (λ c. omega arith) returns (λ c. omega arith)
+    (tie.spec invariant-loop decreases-loop loop-holds (λ c κs. c.loop-i.invariant.2) (λ c. omega arith) (λ c. omega arith) returns (λ c. omega arith)
     (λ c. omega arith) (λ c. omega arith) (λ c. (ends c.before.before).0) (λ c κs. search rules) (λ c. omega arith) (λ c. omega arith) returns-2
     (λ c. omega (arith, inside c.before.before.before)) (λ c. omega arith) (λ c. omega arith) loop-again (λ c. omega arith) (λ c. omega arith)
     returns-3 returns-4)

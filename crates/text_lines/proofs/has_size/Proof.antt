@@ -5,23 +5,23 @@ use Rattle.banquet.specs.Card.{has_size}
 use Rattle.text_lines.proofs.has_size.Statement.{statement}
 use Rattle.text_lines.proofs.has_size.Tie as tie
 
-returns : tie.Need-returns
+returns : tie.Need-returns-then-digits-ne0
 unfolding has_size
 returns c =
-    let n = c.before.args.digits in
-    simp (ne_eqb (n % 2) 0 c.if1.true)
+    let n = c.args.digits in
+    simp (ne_eqb (n % 2) 0 c.if-digits-ne0.true)
 
-returns-2 : tie.Need-returns-2
+returns-2 : tie.Need-returns-then-shorter
 unfolding has_size
 returns-2 c =
-    let n = c.before.before.args.digits in
-    simp (eq-eqb (n % 2) 0 c.before.if1.false, c.if2.true)
+    let n = c.args.digits in
+    simp (eq-eqb (n % 2) 0 c.if-digits-ne0.false, c.if-shorter.true)
 
-returns-3 : tie.Need-returns-3
+returns-3 : tie.Need-returns
 unfolding has_size
 returns-3 c =
-    let n = c.before.before.args.digits in
-    simp (eq-eqb (n % 2) 0 c.before.if1.false, c.if2.false)
+    let n = c.args.digits in
+    simp (eq-eqb (n % 2) 0 c.if-digits-ne0.false, c.if-shorter.false)
 
 pub has_size_spec : {M : Type 1} → statement M
 has_size_spec = tie.close (tie.spec returns returns-2 returns-3)

@@ -9,44 +9,44 @@ use Rattle.text_lines.proofs.Laws.{end_here, end_later, end_other, end_none}
 use Rattle.text_lines.proofs.line_end.Statement.{statement}
 use Rattle.text_lines.proofs.line_end.Tie as tie
 
-abbrev invariant-loop : tie.invariant-loop
+abbrev invariant-loop : tie.invariant-loop-i
 invariant-loop text from i₀ i_end i =
     (i_end ≡ length text) × (i ≤ length text) × (from + line_end (drop from text) ≡ i + line_end (drop i text))
 
-abbrev decreases-loop : tie.decreases-loop
+abbrev decreases-loop : tie.decreases-loop-i
 decreases-loop text from i₀ i_end i = length text - i
 
-loop-holds : tie.Need-loop-init invariant-loop decreases-loop
-loop-holds c = (refl, c.before.requires, refl)
+loop-holds : tie.Need-loop-i-init invariant-loop decreases-loop
+loop-holds c = (refl, c.requires, refl)
 
-returns : tie.Need-returns invariant-loop decreases-loop
+returns : tie.Need-returns-in-LineEnd invariant-loop decreases-loop
 returns c =
-    let l = c.before.before.before.before.before in
-    sym (l.loop.invariant.2
-    ∙ end_here l.before.before.args.text.now l.loop.i (omega arith)
-    (sym c.before.before.symbol.ensures ∙ c.enum-told2.given.1))
+    let l = c in
+    sym (l.loop-i.invariant.2
+    ∙ end_here l.args.text.now l.loop-i.i (omega arith)
+    (sym c.symbol-found.ensures ∙ c.in-LineEnd.is))
 
-returns-2 : tie.Need-returns-2 invariant-loop decreases-loop
+returns-2 : tie.Need-returns-in-Other invariant-loop decreases-loop
 returns-2 c =
-    let l = c.before.before.before.before.before in
-    sym (l.loop.invariant.2
-    ∙ end_other l.before.before.args.text.now l.loop.i (omega arith)
-    (sym c.before.before.symbol.ensures ∙ c.enum-told3.given.1))
+    let l = c in
+    sym (l.loop-i.invariant.2
+    ∙ end_other l.args.text.now l.loop-i.i (omega arith)
+    (sym c.symbol-found.ensures ∙ c.in-Other.is))
 
-loop-again : tie.Need-loop-preserved invariant-loop decreases-loop
+loop-again : tie.Need-loop-i-preserved invariant-loop decreases-loop
 loop-again c =
-    let l = c.before.before.before.before.before in (
+    let l = c in (
       refl,
       omega arith,
-      l.loop.invariant.2
-          ∙ end_later l.before.before.args.text.now l.loop.i (omega arith)
-          (sym c.before.before.symbol.ensures ∙ c.enum_told.given.1),
+      l.loop-i.invariant.2
+          ∙ end_later l.args.text.now l.loop-i.i (omega arith)
+          (sym c.symbol-found.ensures ∙ c.in-Value.is),
     )
 
-returns-3 : tie.Need-returns-3 invariant-loop decreases-loop
+returns-3 : tie.Need-returns invariant-loop decreases-loop
 returns-3 c =
-    let l = c.before in
-    sym (l.loop.invariant.2 ∙ end_none l.before.before.args.text.now l.loop.i (omega arith))
+    let l = c in
+    sym (l.loop-i.invariant.2 ∙ end_none l.args.text.now l.loop-i.i (omega arith))
 
 pub line_end_spec : {M : Type 1} → statement M
 line_end_spec =

@@ -10,29 +10,29 @@ use Rattle.text_lines.specs.Form.{broken}
 use Rattle.text_lines.proofs.read_lines.Statement.{statement}
 use Rattle.text_lines.proofs.read_lines.Tie as tie
 
-returns : tie.Need-returns
+returns : tie.Need-returns-in_default
 returns c =
-    let k = c.before in
-    let a = k.before.before.before.before.args in
-    let is = k.check-lines.ensures in
-    let kept = broken a.sizes.now a.message 1 a.text.now (subst Refusal is c.match.keys2) in
+    let k = c in
+    let a = k.args in
+    let is = k.check_lines-answer.ensures in
+    let kept = broken a.sizes.now a.message 1 a.text.now (subst Refusal is c.in_default.in_default-own.keys2) in
     let file = decoded_lines (length a.sizes.now) a.text.now in
     (is, sym (ap (λ (r : Answer). output_after r file a.out.now) is ∙ kept.output file a.out.now))
 
-decode-lines-requires : tie.Need-decode-lines-requires
+decode-lines-requires : tie.Need-decode_lines-requires
 decode-lines-requires c κs =
-    let e = c.before in
-    let k = e.before.before in
-    (sym k.check-lines.ensures ∙ e.enum_told.given.1, k.before.before.before.before.requires.1)
+    let e = c in
+    let k = e in
+    (sym k.check_lines-answer.ensures ∙ e.in-Accepted.is, k.requires.1)
 
-returns-2 : tie.Need-returns-2
+returns-2 : tie.Need-returns
 returns-2 c =
-    let d = c.before.before in
-    let e = d.before.before in
-    let k = e.before.before in
-    let a = k.before.before.before.before.args in
+    let d = c in
+    let e = d in
+    let k = e in
+    let a = k.args in
     let file = decoded_lines (length a.sizes.now) a.text.now in
-    (k.check-lines.ensures, d.decode-lines.ensures ∙ sym (ap (λ (r : Answer). output_after r file a.out.now) e.enum_told.given.1))
+    (k.check_lines-answer.ensures, d.decode_lines.ensures ∙ sym (ap (λ (r : Answer). output_after r file a.out.now) e.in-Accepted.is))
 
 pub read_lines_spec : {M : Type 1} → statement M
 read_lines_spec =
