@@ -4,7 +4,6 @@ use mathlib.Core.Bool.{Bool}
 use mathlib.Core.List.{map}
 use native.Mathlib.Omega.{arith}
 use lib.ListN.{length}
-use borrow.Author.Tests.{not-true, not-false}
 use borrow.Author.Rules.{rules}
 use Rattle.field.specs.Byte.{inverse8}
 use Rattle.banquet.specs.declared.Answer.TheVariants.{Accepted, WrongKey}
@@ -18,25 +17,25 @@ use Rattle.check_key.proofs.check_key.Tie as tie
 
 -- ---- the key and the plaintext are encrypted
 
-module _ (x : tie.After-encrypt) where
+module _ (x : tie.After-encrypt-ciphertext) where
   abbrev start : tie.Start
   start = x.before.before.before.before.before.before.before
 
   abbrev plaintext_is : x.before.before.front.result.now ≡ front_of (scheme_of start.args.shape) start.args.public.now
-  plaintext_is = x.before.before.front.ensures
+  plaintext_is = x.front.ensures
 
-  inputs_kept : length x.encrypt.last.1.1.0 ≡ length start.args.inputs.now
-  inputs_kept = x.encrypt.kept.1.1.0
+  inputs_kept : length x.encrypt-ciphertext.new.inputs ≡ length start.args.inputs.now
+  inputs_kept = x.encrypt-ciphertext.auto.inputs
 
-encrypt-requires : tie.Need-encrypt-requires
+encrypt-requires : tie.Need-encrypt-ciphertext-requires
 encrypt-requires c κs =
-    let f = c.before in
-    let s = f.before.before.before.before.before in
+    let f = c in
+    let s = f in
     let p = s.requires in (p.1, (plaintext_long p.0 s.args.key.now s.args.public.now f.front.ensures p.2, p.3 ∙ sboxes_200 p.0))
 
 copy-requires : tie.Need-copy-requires
 copy-requires c κs =
-    let x = c.before.before.before.before in
+    let x = c.before.before.before in
     (start x).requires.4 ∙ sym (start x).requires.3 ∙ sym (inputs_kept x)
 
 -- ---- the inverses are there
@@ -45,56 +44,56 @@ module _ (i : tie.After-invert) where
   abbrev copied : tie.After-copy
   copied = i.before.before.before.before
 
-  abbrev encrypted : tie.After-encrypt
-  encrypted = copied.before.before.before.before.before
+  abbrev encrypted : tie.After-encrypt-ciphertext
+  encrypted = copied.before.before.before.before
 
   abbrev entry : tie.Start
   entry = start encrypted
 
-  inverted : i.invert.last.0 ≡ map inverse8 encrypted.encrypt.last.1.1.0
+  inverted : i.invert.new.s ≡ map inverse8 encrypted.encrypt-ciphertext.new.inputs
   inverted = i.invert.ensures ∙ ap (map inverse8) copied.copy.ensures
 
-  inverses_kept : length i.invert.last.0 ≡ length entry.args.inverses.now
-  inverses_kept = i.invert.kept.0 ∙ copied.copy.kept.0
+  inverses_kept : length i.invert.new.s ≡ length entry.args.inverses.now
+  inverses_kept = i.invert.auto.s ∙ copied.copy.auto.dst
 
 -- ---- the first zero
 
-abbrev done : tie.After-first-zero → tie.After-invert
-done z = z.before.before.before.before.before
+abbrev done : tie.After-first_zero-zero → tie.After-invert
+done z = z.before.before.before.before
 
-returns : tie.Need-returns
+returns : tie.Need-returns-then-zero-n
 returns c =
     let z = c.before in
     let i = done z in
     let s = entry i in
-    zero_refused s.pre.0 s.args.key.now s.args.public.now (plaintext_is (encrypted i)) (encrypted i).encrypt.ensures.1 (inverted i)
-    s.pre.3
-    z.first-zero.ensures c.if1.true
+    zero_refused s.requires.0 s.args.key.now s.args.public.now (plaintext_is (encrypted i)) (encrypted i).encrypt-ciphertext.ensures.1 (inverted i)
+    s.requires.3
+    z.first_zero-zero.ensures c.if-zero-n.true
 
 -- ---- the ciphertext was compared
 
-abbrev tested : tie.After-equal → tie.Else1
+abbrev tested : tie.After-equal → tie.Else-zero-n
 tested q = q.before.before.before
 
 answered : (q : tie.After-equal) {u : Bool} → q.equal.result ≡ u
     → let i = done (tested q).before in
-    Answered (entry i).pre.0 (entry i).args.key.now (entry i).args.public.now (plaintext_is (encrypted i)) (encrypted i).encrypt.ensures.1
+    Answered (entry i).requires.0 (entry i).args.key.now (entry i).args.public.now (plaintext_is (encrypted i)) (encrypted i).encrypt-ciphertext.ensures.1
     (inverted i)
     (require u WrongKey Accepted)
 answered q h =
     let z = (tested q).before in
     let i = done z in
     let s = entry i in
-    compared s.pre.0 s.args.key.now s.args.public.now (plaintext_is (encrypted i)) (encrypted i).encrypt.ensures.1 (inverted i)
-    s.pre.3 z.first-zero.ensures (tested q).if1.false (encrypted i).encrypt.ensures.0 q.before.ciphertext2.ensures q.equal.ensures h
+    compared s.requires.0 s.args.key.now s.args.public.now (plaintext_is (encrypted i)) (encrypted i).encrypt-ciphertext.ensures.1 (inverted i)
+    s.requires.3 z.first_zero-zero.ensures (tested q).if-zero-n.false (encrypted i).encrypt-ciphertext.ensures.0 q.ciphertext.ensures q.equal.ensures h
 
-returns-2 : tie.Need-returns-2
+returns-2 : tie.Need-returns-then-not-equal
 unfolding require
-returns-2 c = answered c.before (not-true _ c.if2.true)
+returns-2 c = answered c.before (c.if-not-equal.true)
 
-returns-3 : tie.Need-returns-3
+returns-3 : tie.Need-returns
 unfolding require
-returns-3 c = answered c.before (not-false _ c.if2.false)
+returns-3 c = answered c.before (c.if-not-equal.false)
 
 abbrev found : tie.After-equal → tie.After-invert
 found q = done (tested q).before
@@ -109,14 +108,14 @@ check_key_spec =
     (λ c κs. tt)
     (λ c. search rules)
     (λ c. search rules)
-    (λ c. omega (arith, inputs_kept (encrypted c.before.before.before)))
+    (λ c. omega (arith, inputs_kept (encrypted c.before.before)))
     (λ c κs. search rules)
-    (λ c. let s = entry (done c.before) in omega (arith, c.if1.true, s.pre.3, sboxes_200 s.pre.0))
+    (λ c. let s = entry (done c.before) in omega (arith, c.if-zero-n.true, s.requires.3, sboxes_200 s.requires.0))
     (λ c. inputs_kept (encrypted (done c.before)))
     (λ c. inverses_kept (done c.before))
     returns
     (λ c. search rules)
-    (λ c κs. (entry (done c.before.before)).pre.2)
+    (λ c κs. (entry (done c.before.before)).requires.2)
     (λ c κs. search rules)
     (λ c. inputs_kept (encrypted (found c.before)))
     (λ c. inverses_kept (found c.before))
