@@ -6,17 +6,17 @@ use Rattle.leaf_seeds.proofs.Laws.{front_long, zeros_behind}
 use Rattle.leaf_seeds.proofs.leaf_seeds.Statement.{statement}
 use Rattle.leaf_seeds.proofs.leaf_seeds.Tie as tie
 
-part-seeds-end : tie.Need-slice-bounds-seeds-end
-part-seeds-end c = omega (arith, c.leaf-bytes.ensures.0, leaves_most c.before.before.before.requires.0)
+part-seeds-end : tie.Need-slice_bounds-seeds-end
+part-seeds-end c = omega (arith, c.leaf_bytes-end.ensures.0, leaves_most c.requires.0)
 
 expand-requires : tie.Need-expand-requires
 expand-requires c κs =
-    let at_size = c.before in
-    let p = at_size.before.before.before.requires in
-    (p.1, p.2, front_long _ at_size.leaf-bytes.ensures.0 (leaves_most p.0), omega (arith, leaves_most p.0))
+    let at_size = c in
+    let p = at_size.requires in
+    (p.1, p.2, front_long _ at_size.leaf_bytes-end.ensures.0 (leaves_most p.0), omega (arith, leaves_most p.0))
 
 returns : tie.Need-returns
-returns c = zeros_behind 2048 c.before.before.before.leaf-bytes.ensures.0 c.before.expand.ensures
+returns c = zeros_behind 2048 c.leaf_bytes-end.ensures.0 c.expand.ensures
 
 pub leaf_seeds_spec : {M : Type 1} → statement M
 leaf_seeds_spec =
