@@ -11,44 +11,44 @@ use Rattle.fields.specs.Offsets.{total_take_fits, length_field_fits}
 use Rattle.stated.proofs.copy_share.Statement.{statement}
 use Rattle.stated.proofs.copy_share.Tie as tie
 
-abbrev start : tie.After-field → tie.Start
+abbrev start : tie.After-field-rows → tie.Start
 start c = c.before.before.before.before.before.before.before
 
 -- the size of a share
-abbrev size : tie.After-field → ℕ
+abbrev size : tie.After-field-rows → ℕ
 size c = get_or (start c).args.parts.now (start c).args.p 0
 
 -- the row lies in the field
-fits : (c : tie.After-field) → (start c).args.i * size c + size c ≤ length c.field.result.now
+fits : (c : tie.After-field-rows) → (start c).args.i * size c + size c ≤ length c.field-rows.result.now
 fits c =
     let s = start c in
-    omega (arith, s.pre.6, ap length c.field.ensures, length_field_fits s.args.sizes.now s.args.k s.args.s.now s.pre.1)
+    omega (arith, s.requires.6, ap length c.field-rows.ensures, length_field_fits s.args.sizes.now s.args.k s.args.s.now s.requires.1)
 
-copy-at-requires : tie.Need-copy-at-requires
+copy-at-requires : tie.Need-copy_at-requires
 copy-at-requires c κs =
     let f = c.before.before in
     let s = start f in
     omega (
       arith,
-      row_long s.args.i (size f) f.field.result.now (fits f),
-      f.before.offset.ensures,
+      row_long s.args.i (size f) f.field-rows.result.now (fits f),
+      f.offset-at.ensures,
       total_take_fits s.args.parts.now s.args.p,
-      s.pre.4,
+      s.requires.4,
     )
 
 returns : tie.Need-returns
 returns c =
-    let w = c.before.before in
-    let f = w.before.before.before in
+    let w = c in
+    let f = w.before.before.before.before.before in
     let a = (start f).args in
     w.copy_at.ensures
-    ∙ ap₂ (put a.out.now) f.before.offset.ensures
-    (row_cut a.i (size f) f.field.result.now ∙ ap (row (size f) a.i) f.field.ensures)
+    ∙ ap₂ (put a.out.now) f.offset-at.ensures
+    (row_cut a.i (size f) f.field-rows.result.now ∙ ap (row (size f) a.i) f.field-rows.ensures)
 
 pub copy_share_spec : {M : Type 1} → statement M
 copy_share_spec =
     tie.close
-    (tie.spec (λ c. search rules) (λ c. search rules) (λ c κs. let p = c.before.before.before.before.before.requires in (omega (arith, p.3), p.5))
-    (λ c κs. let p = c.before.before.before.before.before.before.requires in (p.0, p.1, p.2)) (λ c. omega (arith, fits c))
+    (tie.spec (λ c. search rules) (λ c. search rules) (λ c κs. let p = c.requires in (omega (arith, p.3), p.5))
+    (λ c κs. let p = c.requires in (p.0, p.1, p.2)) (λ c. omega (arith, fits c))
     (λ c. omega (arith, fits c)) (λ c. le-add_right _ _) (λ c. le-add_right _ _) (λ c. fits c.before) copy-at-requires
-    (λ c. c.before.before.copy_at.auto.0) returns)
+    (λ c. c.copy_at.auto.dst) returns)
