@@ -1,3 +1,2 @@
 // Theorems on card text; specs/ has them.
 #![tactic(auto)]
-
