@@ -9,20 +9,20 @@ use Rattle.points.proofs.tables.Tie as tie
 
 tables-requires : tie.Need-tables-requires
 tables-requires c κs =
-    let p = c.before.before.before.before in
-    let n = p.before.before in
-    let s = n.before.before.before.before in
+    let p = c in
+    let n = p in
+    let s = n in
     let w = wide_field s.requires.0 in
-    (w.fits, ap length p.powers.ensures ∙ w.eight, search rules)
+    (w.fits, ap length p.powers-p.ensures ∙ w.eight, search rules)
 
 returns : tie.Need-returns
 returns c =
-    let t = c.before.before in
-    let p = t.before.before.before.before.before in
-    let n = p.before.before in
-    let s = n.before.before.before.before in (
-      ap (λ l. get_or l 20 0) n.near-values.ensures,
-      tables_right s.requires.0 s.args.x n.near-values.ensures p.powers.ensures t.tables.ensures,
+    let t = c in
+    let p = t in
+    let n = p in
+    let s = n in (
+      ap (λ l. get_or l 20 0) n.near_values.ensures,
+      tables_right s.requires.0 s.args.x n.near_values.ensures p.powers-p.ensures t.tables.ensures,
     )
 
 pub tables_spec : {M : Type 1} → statement M
