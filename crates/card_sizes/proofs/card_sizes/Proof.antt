@@ -6,9 +6,9 @@ use Rattle.card_sizes.proofs.card_sizes.Tie as tie
 
 returns : tie.Need-returns
 returns c =
-    let f = c.before in
-    let s = f.before in
-    sizes_are s.args.shape s.args.m s.requires.brief c.public-key-length.ensures.0 f.frame-length.ensures.0
+    let f = c in
+    let s = f in
+    sizes_are s.args.shape s.args.m s.requires.brief c.public_key_length.ensures.0 f.frame_length-sizes.ensures.0
 
 pub card_sizes_spec : {M : Type 1} → statement M
 card_sizes_spec =
