@@ -9,19 +9,19 @@ use Rattle.opened.proofs.Laws.{sum_none, sum_more}
 use Rattle.opened.proofs.sum.Statement.{statement}
 use Rattle.opened.proofs.sum.Tie as tie
 
-abbrev invariant-loop : tie.invariant-loop
+abbrev invariant-loop : tie.invariant-loop-k
 invariant-loop s x₀ k₀ k_end x k = (k ≤ length s) × (x ≡ xor_sum k (λ k. get_or s k 0))
 
-abbrev decreases-loop : tie.decreases-loop
+abbrev decreases-loop : tie.decreases-loop-k
 decreases-loop s x₀ k₀ k_end x k = length s - k
 
-loop-again : tie.Need-loop-preserved invariant-loop decreases-loop
-loop-again c = let l = c.before.before.loop in (omega arith, sum_more _ l.k l.invariant.1)
+loop-again : tie.Need-loop-k-preserved invariant-loop decreases-loop
+loop-again c = let l = c.loop-k in (omega arith, sum_more _ l.k l.invariant.1)
 
 returns : tie.Need-returns invariant-loop decreases-loop
 returns c =
-    let l = c.before.loop in
-    let s = c.before.before.args.s.now in
+    let l = c.loop-k in
+    let s = c.args.s.now in
     let e : l.k ≡ length s = omega arith in
     l.invariant.1 ∙ ap (λ (n : ℕ). xor_sum n (λ k. get_or s k 0)) e
 
