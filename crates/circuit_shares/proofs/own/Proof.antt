@@ -6,23 +6,23 @@ use Rattle.circuit_shares.proofs.own.Tie as tie
 
 -- ---- earlier moments
 
-abbrev start-before-then1 : tie.Then1 → tie.Start
+abbrev start-before-then1 : tie.Then-i-ne0 → tie.Start
 start-before-then1 c = c.before.before.before.before.before.before.before.before
 
-abbrev start-before-else1 : tie.Else1 → tie.Start
+abbrev start-before-else1 : tie.Else-i-ne0 → tie.Start
 start-before-else1 c = c.before.before.before.before.before.before.before.before
 
-returns : tie.Need-returns
+returns : tie.Need-returns-then-i-ne0
 returns c =
     let s = start-before-then1 c in
-    own_other s.args.offset.now c.before.before.before.copy.ensures c.if1.true
+    own_other s.args.offset.now c.copy.ensures c.if-i-ne0.true
 
-returns-2 : tie.Need-returns-2
+returns-2 : tie.Need-returns
 returns-2 c =
-    let x = c.before.before in
-    let test = x.before.before in
+    let x = c in
+    let test = x.before.before.before.before in
     let s = start-before-else1 test in
-    own_first s.args.offset.now test.before.before.before.copy.ensures test.if1.false x.xor-into.ensures
+    own_first s.args.offset.now test.copy.ensures test.if-i-ne0.false x.xor_into.ensures
 
 pub own_spec : {M : Type 1} → statement M
 own_spec =
