@@ -7,13 +7,13 @@ use Rattle.write_card.proofs.join.Tie as tie
 
 returns : tie.Need-returns
 returns c =
-    let third = c.before.before in
-    let second = third.before.before.before.before in
-    let first = second.before.before.before.before in
-    let s = first.before.before.before.before.before.before in (
+    let third = c in
+    let second = third in
+    let first = second in
+    let s = first in (
       refl,
       joined s.args.public.now s.args.message.now s.args.signature.now s.args.bytes.now first.copy_at.ensures
-          first.copy_at.auto.0 second.copy-at2.ensures second.copy-at2.auto.0 third.copy-at3.ensures third.copy-at3.auto.0,
+          first.copy_at.auto.dst second.copy_at-2.ensures second.copy_at-2.auto.dst third.copy_at-3.ensures third.copy_at-3.auto.dst,
     )
 
 pub join_spec : {M : Type 1} → statement M

@@ -6,8 +6,8 @@ use Rattle.write_card.proofs.Laws.{Together, text_within, card_lent, card_writte
 use Rattle.write_card.proofs.write_card.Statement.{statement}
 use Rattle.write_card.proofs.write_card.Tie as tie
 
-module _ (z : tie.After-card-sizes) where
-  abbrev joined : tie.After-join
+module _ (z : tie.After-card_sizes-sizes) where
+  abbrev joined : tie.After-join-end
   joined = z.before.before.before
 
   abbrev start : tie.Start
@@ -17,27 +17,27 @@ module _ (z : tie.After-card-sizes) where
   out = start.args.out.now
 
   together : Together start.args.shape start.args.public.now start.args.message.now start.args.signature.now
-      z.before.lines.result z.card-sizes.result joined.join.result joined.join.last.1.1.1.0
+      z.before.lines-lines.result z.card_sizes-sizes.result joined.join-end.result joined.join-end.new.bytes
   together = record {
-    key = start.pre.1;
-    exact = start.pre.2;
-    many = z.before.lines.ensures.0;
-    are = z.card-sizes.ensures;
-    ends = joined.join.ensures.0;
-    whole = joined.join.ensures.1;
+    key = start.requires.1;
+    exact = start.requires.2;
+    many = z.lines-lines.ensures.0;
+    are = z.card_sizes-sizes.ensures;
+    ends = joined.join-end.ensures.0;
+    whole = joined.join-end.ensures.1;
   }
 
-part-encode-lines-end-3 : tie.Need-slice-bounds-encode-lines-end-3
-part-encode-lines-end-3 c = let z = c.before.before.before.before in text_within (together z) (out z) (start z).requires.4
+part-encode-lines-end-3 : tie.Need-slice_bounds-encode_lines-end-3
+part-encode-lines-end-3 c = let z = c.before.before in text_within (together z) (out z) (start z).requires.4
 
-encode-lines-requires : tie.Need-encode-lines-requires
-encode-lines-requires c κs = let z = c.before.before.before.before.before in card_lent (together z) (out z) (start z).requires.4
+encode-lines-requires : tie.Need-encode_lines-requires
+encode-lines-requires c κs = let z = c.before.before.before in card_lent (together z) (out z) (start z).requires.4
 
 returns : tie.Need-returns
 returns c =
-    let k = c.before.before in
+    let k = c in
     let z = k.before.before.before.before.before.before in
-    card_written (together z) (out z) (start z).requires.4 k.encode-lines.ensures
+    card_written (together z) (out z) (start z).requires.4 k.encode_lines.ensures
 
 pub write_card_spec : {M : Type 1} → statement M
 write_card_spec =
