@@ -16,92 +16,92 @@ use Rattle.finish_frames.proofs.finish_frame.Tie as tie
 
 -- ---- earlier moments
 
-abbrev sibling-seeds-before-slice-known3 : tie.After-slice-known3 → tie.After-sibling-seeds
-sibling-seeds-before-slice-known3 c = c.before.before.before.before.before.before.before.before
+abbrev sibling-seeds-before-slice-known3 : tie.After-slice_known-3-1 → tie.After-sibling_seeds
+sibling-seeds-before-slice-known3 c = c.before.before.before.before.before.before.before
 
 -- what a need looks back to once the leaves' seeds are there
-module _ (c : tie.After-leaf-seeds) where
+module _ (c : tie.After-leaf_seeds-seeds) where
   abbrev start : tie.Start
   start = c.before.before.before.before
 
   -- the hidden party's seed
   seed_most : start.args.hidden * 16 + 16 ≤ 2048
-  seed_most = le_trans (row_fits 16 start.pre.3) (mul-le-mul_right 16 start.pre.0.few)
+  seed_most = le_trans (row_fits 16 start.requires.3) (mul-le-mul_right 16 start.requires.0.few)
 
-  seed_fits : start.args.hidden * 16 + 16 ≤ length c.leaf-seeds.result
+  seed_fits : start.args.hidden * 16 + 16 ≤ length c.leaf_seeds-seeds.result
   seed_fits =
-      let p = start.pre in
-      le_trans (row_fits 16 p.3) (seeds_room p.0 start.args.salt.now start.args.root.now start.args.e p.2 c.leaf-seeds.ensures)
+      let p = start.requires in
+      le_trans (row_fits 16 p.3) (seeds_room p.0 start.args.salt.now start.args.root.now start.args.e p.2 c.leaf_seeds-seeds.ensures)
 
 -- once it is known where the sibling seeds end and where the commitment does
-module _ (c : tie.After-offset2) where
-  abbrev leaved : tie.After-leaf-seeds
+module _ (c : tie.After-offset-k) where
+  abbrev leaved : tie.After-leaf_seeds-seeds
   leaved = c.before.before
 
   abbrev d : ℕ
-  d = c.before.offset.result
+  d = c.offset-d.result
 
   abbrev k : ℕ
-  k = c.offset2.result
+  k = c.offset-k.result
 
   ends : Ends (start leaved).args.shape d k
-  ends = record { siblings = c.before.offset.ensures.0; commitment = c.offset2.ensures.0 }
+  ends = record { siblings = c.offset-d.ensures.0; commitment = c.offset-k.ensures.0 }
 
   fits : k ≤ length (start leaved).args.frame.now
-  fits = within_frame ends (start leaved).pre.0 (start leaved).pre.4
+  fits = within_frame ends (start leaved).requires.0 (start leaved).requires.4
 
 -- and once the sibling seeds are written
-module _ (c : tie.After-sibling-seeds) where
-  abbrev known : tie.After-offset2
+module _ (c : tie.After-sibling_seeds) where
+  abbrev known : tie.After-offset-k
   known = c.before.before
 
   abbrev entry : tie.Start
   entry = start (leaved known)
 
-  same : length (put_mid 0 (d known - 0) entry.args.frame.now c.sibling-seeds.new.1.1.1.1.1.1.0) ≡ length entry.args.frame.now
+  same : length (put_mid 0 (d known - 0) entry.args.frame.now c.sibling_seeds.new.out) ≡ length entry.args.frame.now
   same =
-      same_len_mid 0 (d known - 0) entry.args.frame.now c.sibling-seeds.new.1.1.1.1.1.1.0
-      c.sibling-seeds.auto.1.1.1.1.1.1.0
+      same_len_mid 0 (d known - 0) entry.args.frame.now c.sibling_seeds.new.out
+      c.sibling_seeds.auto.out
 
-sibling-seeds-requires : tie.Need-sibling-seeds-requires
+sibling-seeds-requires : tie.Need-sibling_seeds-requires
 sibling-seeds-requires c κs =
     let o = c.before in
-    let p = (start (leaved o)).pre in
+    let p = (start (leaved o)).requires in
     (p.1, p.2, siblings_long (ends o) _ (fits o), omega (arith, leaves_most p.0))
 
 hash-requires : tie.Need-hash-requires
 hash-requires c κs =
-    let l = leaved (known c.before.before.before.before.before) in
-    ((start l).pre.1, row_long (start l).args.hidden 16 l.leaf-seeds.result (seed_fits l))
+    let l = leaved (known c.before.before.before.before) in
+    ((start l).requires.1, row_long (start l).args.hidden 16 l.leaf_seeds-seeds.result (seed_fits l))
 
 -- the frame is as long as it was
-same_length : tie.Need-same-length
+same_length : tie.Need-shape_of-frame
 same_length c =
-    let h = c.before.before.hash in
+    let h = c.hash in
     let q = sibling-seeds-before-slice-known3 c in
     let o = known q in
-    same_len_mid (d o) (k o - d o) (put_mid 0 (d o - 0) (entry q).args.frame.now q.sibling-seeds.last.1.1.1.1.1.1.0) h.new.1.1.1.1.1.0
-    h.auto.1.1.1.1.1.0
+    same_len_mid (d o) (k o - d o) (put_mid 0 (d o - 0) (entry q).args.frame.now q.sibling_seeds.new.out) h.new.out
+    h.auto.out
     ∙ same q
 
 returns : tie.Need-returns
 returns c =
-    let h = c.before.before.hash in
+    let h = c.hash in
     let q = sibling-seeds-before-slice-known3 c in
     let s = entry q in
-    let p = s.pre in
+    let p = s.requires in
     let a = s.args in
     finished p.0 a.salt.now a.root.now a.e a.hidden a.frame.now p.2 p.3 p.4 (ends (known q))
-    (leaved (known q)).leaf-seeds.ensures q.sibling-seeds.ensures q.sibling-seeds.kept.1.1.1.1.1.1.0 h.ensures
+    (leaved (known q)).leaf_seeds-seeds.ensures q.sibling_seeds.ensures q.sibling_seeds.auto.out h.ensures
 
 pub finish_frame_spec : {M : Type 1} → statement M
 finish_frame_spec =
     tie.close
-    (tie.spec (λ c κs. let p = c.before.before.before.requires in (p.0, p.1, p.2))
-    (λ c κs. ((start c).requires.0, lit< tt)) (λ c κs. ((start c.before).pre.0, lit< tt))
+    (tie.spec (λ c κs. let p = c.requires in (p.0, p.1, p.2))
+    (λ c κs. ((start c).requires.0, lit< tt)) (λ c κs. ((start c.before).requires.0, lit< tt))
     (λ c. in_word (begins 16 (seed_most (leaved c))) (lit≤ tt)) (λ c. in_word (seed_most (leaved c)) (lit≤ tt)) (λ c. zero-le)
     (λ c. zero-le) (λ c. le_trans (siblings_first (ends c)) (fits c)) sibling-seeds-requires
-    (λ c. let p = (entry c.before.before).pre in in_byte p.3 (le_trans p.0.few (lit≤ tt))) (λ c. le-add_right _ 16)
-    (λ c. le-add_right _ 16) (λ c. seed_fits (leaved (known c.before.before.before)))
-    (λ c. siblings_first (ends (known c.before.before.before.before))) (λ c. siblings_first (ends (known c.before.before.before.before)))
-    (λ c. let q = c.before.before.before.before in as_long (fits (known q)) (same q)) hash-requires same_length returns)
+    (λ c. let p = (entry c.before.before).requires in in_byte p.3 (le_trans p.0.few (lit≤ tt))) (λ c. le-add_right _ 16)
+    (λ c. le-add_right _ 16) (λ c. seed_fits (leaved (known c.before.before)))
+    (λ c. siblings_first (ends (known c.before.before.before))) (λ c. siblings_first (ends (known c.before.before.before)))
+    (λ c. let q = c.before.before.before in as_long (fits (known q)) (same q)) hash-requires same_length returns)
