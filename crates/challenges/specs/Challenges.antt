@@ -6,7 +6,8 @@ use Rattle.std.proofs.Math.Nat.{mod-lt}
 use Rattle.std.proofs.Math.Decide.{dec_lt}
 use Rattle.slices.specs.Lists.{choose}
 use Rattle.slices.specs.Bytes.{Bytes}
-use Rattle.slices.specs.Numbers.{number_at, number_at_lt}
+use Rattle.slices.specs.Numbers.{number_at}
+use Rattle.slices.proofs.Numbers.{number_at_lt}
 use Rattle.banquet.specs.declared.Shape.{Shape}
 use Rattle.banquet.specs.Hash.{evaluation_point, party_of}
 use Rattle.sets.specs.Valid.{Valid}

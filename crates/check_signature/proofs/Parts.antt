@@ -3,7 +3,8 @@ use mathlib.Core.List.{List, []}
 use Prim.Native.Nat.{ℕ, ◌<◌}
 use Rattle.slices.specs.Bytes.{Bytes, Sized, nil_bytes, append_bytes, rows_bytes, drop_bytes}
 use Rattle.slices.specs.Sums.{zip_bytes, sum_bytes}
-use Rattle.slices.specs.Layout.{total, sized_field}
+use Rattle.slices.specs.Layout.{total}
+use Rattle.slices.proofs.Layouts.{sized_field}
 use Rattle.poly.specs.Index.{at_cases}
 use Rattle.banquet.specs.declared.Shape.{Shape}
 use Rattle.banquet.specs.Shape.{frame_sizes}

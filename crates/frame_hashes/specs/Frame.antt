@@ -11,8 +11,10 @@ use Rattle.slices.specs.Lists.{rows, row, part, zip_xor, sum_xor}
 use Rattle.slices.specs.Tab.{rows_cong, row_of_rows}
 use Rattle.slices.specs.Bytes.{Bytes, Sized, drop_bytes}
 use Rattle.slices.specs.Sums.{sum_xor_cong}
-use Rattle.slices.specs.Numbers.{numbers, bytes_of, bytes_of_number, length_bytes_of, length_numbers, number_at_lt}
-use Rattle.slices.specs.Layout.{total, field, layout, HasSizes, field_layout, length_layout, sized_field}
+use Rattle.slices.specs.Numbers.{numbers, bytes_of, bytes_of_number, length_bytes_of, length_numbers}
+use Rattle.slices.proofs.Numbers.{number_at_lt}
+use Rattle.slices.specs.Layout.{total, field, layout, HasSizes, length_layout}
+use Rattle.slices.proofs.Layouts.{field_layout, sized_field}
 use Rattle.shake.specs.Shake128.{shake128}
 use Rattle.poly.specs.Index.{at, at_same, at_other, at_cases}
 use Rattle.poly.specs.Sum.{sum}

@@ -9,19 +9,8 @@ use Rattle.slices.specs.Lists.{choose, tab, row, zip_xor, sum_xor}
 use Rattle.slices.specs.Tab.{rows_cong, rows_of}
 use Rattle.slices.specs.Bytes.{Bytes, Sized, nil_bytes}
 use Rattle.slices.specs.Sums.{sum_xor_cong, sum_bytes, zip_bytes, length_zip_sum}
-use Rattle.slices.specs.Numbers.{
-  number,
-  number_at,
-  numbers,
-  bytes_of,
-  length_bytes_of,
-  bytes_of_bytes,
-  number_bytes_of,
-  bytes_of_number,
-  length_numbers,
-  numbers_bytes,
-  number_at_numbers_lt,
-}
+use Rattle.slices.specs.Numbers.{number, number_at, numbers, bytes_of, length_bytes_of, bytes_of_bytes, number_bytes_of, bytes_of_number, length_numbers, numbers_bytes, }
+use Rattle.slices.proofs.Numbers.{number_at_numbers_lt}
 use Rattle.slices.specs.Layout.{total, field, layout, field_nil}
 use Rattle.poly.specs.Index.{at, at_cases}
 use Rattle.poly.specs.Sum.{sum, sum_cong}

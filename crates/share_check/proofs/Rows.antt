@@ -10,7 +10,8 @@ use Rattle.slices.specs.Lists.{rows, row, same, sum_xor}
 use Rattle.slices.specs.Tab.{length_rows, row_of_rows}
 use Rattle.slices.specs.Sums.{sum_xor_cong}
 use Rattle.slices.specs.Numbers.{number_lt, length_bytes_of, length_numbers}
-use Rattle.slices.specs.Layout.{total, field, sized_field}
+use Rattle.slices.specs.Layout.{total, field}
+use Rattle.slices.proofs.Layouts.{sized_field}
 use Rattle.compare.specs.Lowest.{lowest}
 use Rattle.banquet.specs.declared.Shape.{Shape}
 use Rattle.banquet.specs.declared.Answer.{Answer}

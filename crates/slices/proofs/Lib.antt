@@ -4,3 +4,5 @@ pub mod Fill
 pub mod Put
 pub mod Rows
 pub mod Array
+pub mod Layouts
+pub mod Numbers

@@ -1,7 +1,7 @@
 -- Layouts: fields that stand one after the other, told apart by their sizes. Assumes nothing.
 use Rattle.std.specs.Prelude.{◌≡◌, refl, List, [], ◌∷◌, ◌++◌, ℕ, zero, suc, ◌+◌, ◌≤◌, length, get_or, take, drop}
-use Rattle.std.proofs.Common.{sym, ap, ap₂, ◌∙◌, append_assoc, append-nil, arith, length-append, length-take, length-drop, take_at, drop_at}
-use Rattle.slices.specs.Bytes.{Bytes, Sized, nil_bytes, append_bytes, take_bytes, drop_bytes}
+use Rattle.std.proofs.Common.{ap, ap₂, ◌∙◌, append_assoc, arith, length-append, length-take, length-drop, take_at, drop_at}
+use Rattle.slices.specs.Bytes.{Bytes, nil_bytes, append_bytes, take_bytes, drop_bytes}
 
 -- field k of a list, where the fields have these sizes
 unfoldable pub field : List ℕ → ℕ → List ℕ → List ℕ
@@ -47,9 +47,6 @@ field_bytes [] k s p = nil_bytes
 field_bytes (n ∷ sizes) zero s p = take_bytes n s p
 field_bytes (n ∷ sizes) (suc k) s p = field_bytes sizes k (drop n s) (drop_bytes n s p)
 
-pub sized_field : (sizes : List ℕ) (k : ℕ) {s : List ℕ} → Sized (total sizes) s → Sized (get_or sizes k 0) (field sizes k s)
-sized_field sizes k {s} h = record { size = length_field sizes k s h.size; bytes = field_bytes sizes k s h.bytes }
-
 -- ---- what is laid out is read back
 
 -- the fields have the sizes
@@ -77,9 +74,6 @@ field_layout_append (n ∷ sizes) (s ∷ fields) t h zero = rw append_assoc (tak
 field_layout_append (n ∷ sizes) (s ∷ fields) t h (suc k) =
     ap (λ l. field sizes k (drop n l)) (append_assoc s (layout fields) t) ∙ ap (field sizes k) (drop_at s (layout fields ++ t) n h.0)
     ∙ field_layout_append sizes fields t h.1 k
-
-pub field_layout : (sizes : List ℕ) (fields : List (List ℕ)) → HasSizes sizes fields → (k : ℕ) → field sizes k (layout fields) ≡ get_or fields k []
-field_layout sizes fields h k = ap (field sizes k) (sym (append-nil (layout fields))) ∙ field_layout_append sizes fields [] h k
 
 -- bytes laid out are bytes
 abbrev pub AllBytes : List (List ℕ) → Type 0

@@ -1,11 +1,11 @@
 -- Numbers of some bytes, "low byte first": the number that a list of bytes holds, and the bytes of a number. Assumes nothing.
 use Rattle.std.specs.Prelude.{◌≡◌, refl, List, [], ◌∷◌, ◌++◌, ℕ, zero, suc, ◌+◌, ◌*◌, ◌/◌, ◌%◌, ◌^◌, ◌<◌, ◌≤◌, length, get_or}
-use Rattle.std.proofs.Common.{sym, ap, ap₂, ◌∙◌, mod-lt, mod-eq_of_lt, zero-lt-suc, not-suc-le-zero, le_of_suc-le-suc, mul_assoc, arith, length-take, pow_pos, pow-add, shr-shr}
+use Rattle.std.proofs.Common.{sym, ap, ap₂, ◌∙◌, mod-lt, zero-lt-suc, not-suc-le-zero, le_of_suc-le-suc, mul_assoc, arith, pow_pos, pow-add, shr-shr}
 use Rattle.std.proofs.Math.Nat.{mod-one}
 use Rattle.std.proofs.lemmas.Nat.{mod-pow-add}
 use Rattle.slices.specs.Lists.{rows, row}
-use Rattle.slices.specs.Tab.{length_rows, row_of_rows}
-use Rattle.slices.specs.Bytes.{Bytes, nil_bytes, cons_bytes, tail_bytes, rows_bytes, part_bytes}
+use Rattle.slices.specs.Tab.{length_rows}
+use Rattle.slices.specs.Bytes.{Bytes, nil_bytes, cons_bytes, tail_bytes, rows_bytes}
 
 unfoldable pub number : List ℕ → ℕ
 number [] = 0
@@ -106,15 +106,3 @@ length_numbers w n f = length_rows w (λ k. bytes_of w (f k)) n (λ k l. length_
 
 pub numbers_bytes : (w n : ℕ) (f : ℕ → ℕ) → Bytes (numbers w n f)
 numbers_bytes w n f = rows_bytes (λ k. bytes_of w (f k)) n (λ k l. bytes_of_bytes w (f k))
-
--- number k is read back
-pub number_at_numbers : (w n : ℕ) (f : ℕ → ℕ) (k : ℕ) → k < n → number_at w k (numbers w n f) ≡ f k % 2 ^ (8 * w)
-number_at_numbers w n f k l =
-    ap number (row_of_rows w (λ k. bytes_of w (f k)) n (λ k l. length_bytes_of w (f k)) k l) ∙ number_bytes_of w (f k)
-
--- one that fits in w bytes
-pub number_at_numbers_lt : (w n : ℕ) (f : ℕ → ℕ) (k : ℕ) → k < n → f k < 2 ^ (8 * w) → number_at w k (numbers w n f) ≡ f k
-number_at_numbers_lt w n f k l h = number_at_numbers w n f k l ∙ mod-eq_of_lt h
-
-pub number_at_lt : (w k : ℕ) {s : List ℕ} → Bytes s → number_at w k s < 2 ^ (8 * w)
-number_at_lt w k {s} p = number_lt (row w k s) w (part_bytes (k * w) w s p) (rw length-take (omega arith))

@@ -9,7 +9,8 @@ use Rattle.std.specs.Int.Bits.{bit_xor, xor_comm}
 use Rattle.std.proofs.lemmas.Nat.{xor_lt}
 use Rattle.slices.specs.Bytes.{Bytes, Sized}
 use Rattle.slices.specs.Xor.{xor_cancel}
-use Rattle.slices.specs.Numbers.{number_at, number_at_numbers_lt, numbers_bytes}
+use Rattle.slices.specs.Numbers.{number_at, numbers_bytes}
+use Rattle.slices.proofs.Numbers.{number_at_numbers_lt}
 use Rattle.poly.specs.Field.{BinaryField}
 use Rattle.poly.specs.Index.{at}
 use Rattle.poly.specs.Sum.{sum, sum_cong, sum_mul, sum_at, sum_choose, sum_each, elem_sum}

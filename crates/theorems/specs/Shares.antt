@@ -9,7 +9,8 @@ use Rattle.std.proofs.lemmas.Nat.{xor_comm}
 use Rattle.slices.specs.Lists.{sum_xor, zip_xor}
 use Rattle.slices.specs.Bytes.{Bytes, Sized}
 use Rattle.slices.specs.Sums.{get_d_zip, sized_zip, sized_sum}
-use Rattle.slices.specs.Layout.{total, field_bytes, sized_field}
+use Rattle.slices.specs.Layout.{total, field_bytes}
+use Rattle.slices.proofs.Layouts.{sized_field}
 use Rattle.poly.specs.Field.{BinaryField}
 use Rattle.poly.specs.Index.{at, at_same, at_other, at_cases}
 use Rattle.poly.specs.Sum.{sum, sum_cong, sum_add, sum_at}

@@ -2,19 +2,10 @@
 use Rattle.std.specs.Prelude.{◌≡◌, List, [], ◌∷◌, ℕ, suc, ◌<◌, length, get_or}
 use Rattle.std.proofs.Common.{sym, ◌∙◌, ap, ap₂, mod-eq_of_lt}
 use Rattle.slices.specs.Bytes.{Bytes, Sized}
-use Rattle.slices.specs.Numbers.{
-  number,
-  bytes_of,
-  number_at,
-  numbers,
-  length_bytes_of,
-  bytes_of_bytes,
-  number_bytes_of,
-  length_numbers,
-  numbers_bytes,
-  number_at_numbers_lt,
-}
-use Rattle.slices.specs.Layout.{total, HasSizes, length_layout, field_layout, layout_bytes}
+use Rattle.slices.specs.Numbers.{number, bytes_of, number_at, numbers, length_bytes_of, bytes_of_bytes, number_bytes_of, length_numbers, numbers_bytes, }
+use Rattle.slices.proofs.Numbers.{number_at_numbers_lt}
+use Rattle.slices.specs.Layout.{total, HasSizes, length_layout, layout_bytes}
+use Rattle.slices.proofs.Layouts.{field_layout}
 use Rattle.poly.specs.Sum.{sum, sum_cong, elem_sum}
 use Rattle.banquet.specs.Shape.{frame_sizes}
 use Rattle.banquet.specs.Scheme.{Scheme, wide_ops, wide_mul}

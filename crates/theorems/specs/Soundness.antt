@@ -9,7 +9,8 @@ use Rattle.slices.specs.Lists.{sum_xor}
 use Rattle.slices.specs.Bytes.{Bytes, Sized, take_bytes}
 use Rattle.slices.specs.Sums.{sum_xor_cong}
 use Rattle.slices.specs.Numbers.{number_lt}
-use Rattle.slices.specs.Layout.{total, field, field_bytes, length_field_le, sized_field}
+use Rattle.slices.specs.Layout.{total, field, field_bytes, length_field_le}
+use Rattle.slices.proofs.Layouts.{sized_field}
 use Rattle.poly.specs.Field.{BinaryField}
 use Rattle.poly.specs.Index.{clash_or_merged, at_cases}
 use Rattle.poly.specs.Lagrange.{eval_interpolate}

@@ -7,7 +7,8 @@ use Rattle.std.specs.Int.Bits.{bit_xor}
 use Rattle.slices.specs.Lists.{sum_xor}
 use Rattle.slices.specs.Sums.{get_d_zip}
 use Rattle.slices.specs.Bytes.{Bytes}
-use Rattle.slices.specs.Numbers.{number_at, number_at_lt}
+use Rattle.slices.specs.Numbers.{number_at}
+use Rattle.slices.proofs.Numbers.{number_at_lt}
 use Rattle.field.specs.Linear.{additive_zero}
 use Rattle.field.specs.Wide.{binary_field}
 use Rattle.poly.specs.Field.{BinaryField}

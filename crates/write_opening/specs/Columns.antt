@@ -5,7 +5,8 @@ use mathlib.Core.List.{List, [], ◌∷◌, append-nil}
 use Rattle.slices.specs.Lists.{rows}
 use Rattle.slices.specs.Tab.{rows_cong, row_of_rows}
 use Rattle.slices.specs.Numbers.{bytes_of, numbers, length_bytes_of, length_numbers}
-use Rattle.slices.specs.Layout.{field, total, layout, HasSizes, length_layout, field_layout}
+use Rattle.slices.specs.Layout.{field, total, layout, HasSizes, length_layout}
+use Rattle.slices.proofs.Layouts.{field_layout}
 use Rattle.banquet.specs.declared.Shape.{Shape}
 use Rattle.banquet.specs.Sets.{scheme_of}
 use Rattle.banquet.specs.Execution.{Committed, Challenge, output_share, opened_c, opened_a, opened_b}
