@@ -12,33 +12,33 @@ use Rattle.product_offsets.proofs.product_offsets.Tie as tie
 
 -- ---- the places, from the last to the first
 
-abbrev at-products : tie.After-slice-known4 → tie.After-products
+abbrev at-products : tie.After-slice_known-4-1 → tie.After-products
 at-products c = c.before.before.before.before.before.before.before.before
 
-abbrev at-load3 : tie.After-products → tie.After-load3
-at-load3 c = c.before.before.before.before.before.before
+abbrev at-load3 : tie.After-products → tie.After-load-3
+at-load3 c = c.before.before.before.before
 
-abbrev at-tape-part2 : tie.After-load3 → tie.After-tape-part2
+abbrev at-tape-part2 : tie.After-load-3 → tie.After-tape_part-2
 at-tape-part2 c = c.before.before
 
-abbrev at-load2 : tie.After-tape-part2 → tie.After-load2
+abbrev at-load2 : tie.After-tape_part-2 → tie.After-load-2
 at-load2 c = c.before.before.before
 
-abbrev at-tape-part : tie.After-load2 → tie.After-tape-part
+abbrev at-tape-part : tie.After-load-2 → tie.After-tape_part
 at-tape-part c = c.before.before
 
-abbrev at_load : tie.After-tape-part → tie.After-load
+abbrev at_load : tie.After-tape_part → tie.After-load
 at_load c = c.before.before.before
 
-abbrev at-points : tie.After-load → tie.After-points
+abbrev at-points : tie.After-load → tie.After-points-1
 at-points c = c.before.before
 
-abbrev start : tie.After-points → tie.Start
+abbrev start : tie.After-points-1 → tie.Start
 start c = c.before.before.before.before.before.before.before.before
 
 -- ---- the parts of the rooms that are lent
 
-module _ (c : tie.After-points) where
+module _ (c : tie.After-points-1) where
   abbrev m : ℕ
   m = (start c).args.shape.m1
 
@@ -58,27 +58,27 @@ load-requires-2 c κs =
     let t = c.before in
     let x = at-points (at_load t) in
     let s = start x in
-    let v = s.pre.0.valid in
-    load_fits v (2 * m x) (extra_lent x) (le_of_eq (sym (part_long v 2 s.args.sum.now s.pre.1 t.tape-part.ensures)))
+    let v = s.requires.0.valid in
+    load_fits v (2 * m x) (extra_lent x) (le_of_eq (sym (part_long v 2 s.args.sum.now s.requires.1 t.tape_part.ensures)))
 
 load-requires-3 : tie.Need-load-requires-3
 load-requires-3 c κs =
     let t = c.before in
     let s = start (at-points (at_load (at-tape-part (at-load2 t)))) in
-    let v = s.pre.0.valid in
-    load_fits v 21 refl (products_long v (part_long v 3 s.args.sum.now s.pre.1 t.tape-part2.ensures))
+    let v = s.requires.0.valid in
+    load_fits v 21 refl (products_long v (part_long v 3 s.args.sum.now s.requires.1 t.tape_part-2.ensures))
 
 products-requires : tie.Need-products-requires
 products-requires c κs =
-    let z = c.before.before.before.before.before in
+    let z = c.before.before.before in
     let y = at-load2 (at-tape-part2 z) in
     let x = at_load (at-tape-part y) in
     let o = at-points x in
-    let g = (start o).pre.0 in (
+    let g = (start o).requires.0 in (
       g.valid,
-      x.load.kept.1.1.0 ∙ draws_lent o,
-      y.load2.kept.1.1.0 ∙ extra_lent o,
-      z.load3.auto.1.1.0,
+      x.load.auto.out ∙ draws_lent o,
+      y.load-2.auto.out ∙ extra_lent o,
+      z.load-3.auto.out,
       g.us_size,
       g.vs_size,
       g.lasts_size,
@@ -102,9 +102,9 @@ returns c =
     let o = at-points x in
     let s = start o in
     let i = s.args in
-    offsets_worked s.pre.0.valid i.us.now i.vs.now i.lasts.now i.sum.now i.first.now (draws_lent o) (extra_lent o)
-    x.load.ensures u.tape-part.ensures y.load2.ensures t.tape-part2.ensures z.load3.ensures a.products.ensures
-    c.before.before.store.ensures
+    offsets_worked s.requires.0.valid i.us.now i.vs.now i.lasts.now i.sum.now i.first.now (draws_lent o) (extra_lent o)
+    x.load.ensures u.tape_part.ensures y.load-2.ensures t.tape_part-2.ensures z.load-3.ensures a.products.ensures
+    c.store.ensures
 
 pub product_offsets_spec : {M : Type 1} → statement M
 product_offsets_spec =
