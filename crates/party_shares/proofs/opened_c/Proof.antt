@@ -15,72 +15,72 @@ use Rattle.party_shares.proofs.opened_c.Tie as tie
 
 -- ---- earlier moments
 
-abbrev tape-part-before-load : tie.After-load → tie.After-tape-part
-tape-part-before-load c = c.before.before.before.before.before.before.before
+abbrev tape-part-before-load : tie.After-load → tie.After-tape_part
+tape-part-before-load c = c.before.before.before.before.before.before
 
 abbrev start-before-load : tie.After-load → tie.Start
-start-before-load c = c.before.before.before.before.before.before.before.before.before.before.before.before.before
+start-before-load c = c.before.before.before.before.before.before.before.before.before.before.before.before
 
-part-bytes-end : tie.Need-slice-bounds-bytes-end
+part-bytes-end : tie.Need-slice_bounds-bytes-end
 part-bytes-end c =
-    let s = c.before.before.before.before in
+    let s = c in
     omega (arith, by_points s.requires.0 s.args.shape.wide, s.requires.0.wide_most)
 
 -- the part of `bytes` that is lent
-lent : (p : tie.After-tape-part)
+lent : (p : tie.After-tape_part)
     → let s = p.before.before.before.before.before.before in
     length {A = ℕ} (take (length s.args.product.now - 0) (replicate 126 0)) ≡ product_points s.args.shape * s.args.shape.wide
 lent p =
     let b = p.before.before in
-    front_long (replicate 126 0) b.before.before.before.before.requires.1 (part-bytes-end b)
+    front_long (replicate 126 0) b.requires.1 (part-bytes-end b)
 
 own-requires : tie.Need-own-requires
 own-requires c κs =
     let p = c.before in
-    let s = p.before.before.before.before.before.before in
-    (part_long s.requires.0 3 s.args.tape.now s.requires.2 p.tape-part.ensures ∙ sym (lent p), s.requires.1 ∙ sym (lent p))
+    let s = p in
+    (part_long s.requires.0 3 s.args.tape.now s.requires.2 p.tape_part.ensures ∙ sym (lent p), s.requires.1 ∙ sym (lent p))
 
 load-requires : tie.Need-load-requires
 load-requires c κs =
-    let o = c.before.before.before.before in
-    let p = o.before.before in
-    let s = p.before.before.before.before.before.before in
+    let o = c in
+    let p = o.before.before.before.before.before in
+    let s = p in
     load_fits s.requires.0 21 refl
-    (omega (arith, by_points s.requires.0 s.args.shape.wide, o.own.auto.1.1.1.0, lent p))
+    (omega (arith, by_points s.requires.0 s.args.shape.wide, o.own.auto.out, lent p))
 
-dot-requires : tie.Need-dot-requires
+dot-requires : tie.Need-dot-c-requires
 dot-requires c κs =
     let l = c.before.before.before in
     let p = tape-part-before-load l in
-    let s = p.before.before.before.before.before.before in
-    ((wide_field s.pre.0).fits, omega (arith, l.load.auto.1.1.0, s.pre.3))
+    let s = p in
+    ((wide_field s.requires.0).fits, omega (arith, l.load.auto.out, s.requires.3))
 
 -- P's shares
 values : (l : tie.After-load)
     → let a = (start-before-load l).args in
-    l.load.new.1.1.0 ≡ own_products a.shape a.product.now a.i a.tape.now
+    l.load.new.out ≡ own_products a.shape a.product.now a.i a.tape.now
 values l =
-    let o = l.before.before.before.before.before in
-    let p = o.before.before in
-    let s = p.before.before.before.before.before.before in
+    let o = l in
+    let p = o in
+    let s = p in
     let a = s.args in
-    products_are s.requires.0 a.product.now a.tape.now a.i p.tape-part.ensures o.own.ensures refl l.load.ensures
+    products_are s.requires.0 a.product.now a.tape.now a.i p.tape_part.ensures o.own.ensures refl l.load.ensures
 
-returns : tie.Need-returns
+returns : tie.Need-returns-then-i-eq0
 returns c =
-    let d = c.before in
-    let l = d.before.before.before.before in
+    let d = c in
+    let l = d.before.before.before.before.before in
     let s = start-before-load l in
     let a = s.args in
-    c_first s.pre.0 a.product.now a.far.now a.given a.i a.tape.now (values l) d.dot.ensures c.if1.true
+    c_first s.requires.0 a.product.now a.far.now a.given a.i a.tape.now (values l) d.dot-c.ensures c.if-i-eq0.true
 
-returns-2 : tie.Need-returns-2
+returns-2 : tie.Need-returns
 returns-2 c =
-    let d = c.before in
-    let l = d.before.before.before.before in
+    let d = c in
+    let l = d.before.before.before.before.before in
     let s = start-before-load l in
     let a = s.args in
-    c_other s.pre.0 a.product.now a.far.now a.given a.i a.tape.now (values l) d.dot.ensures c.if1.false
+    c_other s.requires.0 a.product.now a.far.now a.given a.i a.tape.now (values l) d.dot-c.ensures c.if-i-eq0.false
 
 pub opened_c_spec : {M : Type 1} → statement M
 opened_c_spec =
