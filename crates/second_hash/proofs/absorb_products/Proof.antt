@@ -12,39 +12,31 @@ use Rattle.second_hash.proofs.Laws.{offsets_of, one_more}
 use Rattle.second_hash.proofs.absorb_products.Statement.{statement}
 use Rattle.second_hash.proofs.absorb_products.Tie as tie
 
-abbrev invariant-loop : tie.invariant-loop
+abbrev invariant-loop : tie.invariant-loop-e
 invariant-loop shape s n t₀ e₀ t e = (e ≤ n) × (t ≡ absorbed t₀ (rows (offsets_of shape s) e))
 
-abbrev decreases-loop : tie.decreases-loop
+abbrev decreases-loop : tie.decreases-loop-e
 decreases-loop shape s n t₀ e₀ t e = n - e
 
-abbrev start : tie.At-loop invariant-loop decreases-loop → tie.Start invariant-loop decreases-loop
-start k = k.before.before
-
-loop-holds : tie.Need-loop-init invariant-loop decreases-loop
+loop-holds : tie.Need-loop-e-init invariant-loop decreases-loop
 unfolding absorbed
 loop-holds c = (omega arith, refl)
 
 part-requires : tie.Need-part-requires invariant-loop decreases-loop
 part-requires c κs =
-    let s = start c.before.before in
-    (s.pre.0, lit< tt, ap length c.frame.ensures ∙ length_frame s.args.shape s.args.s.now s.pre.1 c.before.loop-test.true)
+    (c.requires.0, lit< tt, ap length c.frame-frame.ensures ∙ length_frame c.args.shape c.args.s.now c.requires.1 c.loop-e-test.true)
 
-loop-again : tie.Need-loop-preserved invariant-loop decreases-loop
+loop-again : tie.Need-loop-e-preserved invariant-loop decreases-loop
 loop-again c =
-    let p = c.before in
-    let f = p.before in
-    let k = f.before.before in
-    let a = (start k).args in (
+    let a = c.args in (
       omega arith,
-      one_more a.shape a.s.now k.loop.e a.start f.frame.ensures p.part.ensures k.loop.invariant.1 c.absorb.ensures,
+      one_more a.shape a.s.now c.loop-e.e a.start c.frame-frame.ensures c.part.ensures c.loop-e.invariant.1 c.absorb-u.ensures,
     )
 
 returns : tie.Need-returns invariant-loop decreases-loop
 returns c =
-    let k = c.before in
-    let e : k.loop.e ≡ (start k).args.shape.executions = omega arith in
-    rw e at k.loop.invariant.1
+    let e : c.loop-e.e ≡ c.args.shape.executions = omega arith in
+    rw e at c.loop-e.invariant.1
 
 pub absorb_products_spec : {M : Type 1} → statement M
 absorb_products_spec =

@@ -11,17 +11,17 @@ use Rattle.second_hash.proofs.second_hash.Tie as tie
 
 returns : tie.Need-returns
 returns c =
-    let o = c.before in
-    let p = o.before.before in
-    let t = p.before in
-    let h = t.before in
-    let k = h.before in
-    let a = k.before.args in
-    second_hashed a.shape a.s.now (bytes_of k.shared-slice-known.given)
-    (t.tagged.ensures ∙ ap (λ x. absorbed empty (2 ∷ x)) h.h1.ensures) p.absorb-products.ensures o.output.ensures
+    let o = c in
+    let p = o in
+    let t = p in
+    let h = t in
+    let k = h in
+    let a = k.args in
+    second_hashed a.shape a.s.now (bytes_of k.shared_slice_known-1.given)
+    (t.tagged-start.ensures ∙ ap (λ x. absorbed empty (2 ∷ x)) h.h1.ensures) p.absorb_products-t.ensures o.output.ensures
 
 pub second_hash_spec : {M : Type 1} → statement M
 second_hash_spec =
     tie.close
-    (tie.spec (λ c κs. omega (arith, c.before.requires.1)) (λ c κs. search rules) (λ c κs. search rules) (λ c. search rules)
+    (tie.spec (λ c κs. omega (arith, c.requires.1)) (λ c κs. search rules) (λ c κs. search rules) (λ c. search rules)
     (λ c κs. search rules) returns)
