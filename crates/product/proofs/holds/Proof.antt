@@ -9,8 +9,6 @@ use Rattle.product.proofs.Laws.{product_right}
 use Rattle.product.proofs.holds.Statement.{statement}
 use Rattle.product.proofs.holds.Tie as tie
 
--- the part of a room that is lent
-
 -- a number for each column can be loaded, of a and of b
 load-requires-2 : tie.Need-load-requires
 load-requires-2 c κs =
@@ -26,7 +24,8 @@ dot-requires c κs =
 
 returns : tie.Need-returns
 returns c =
-    product_right c.requires.0 c.args.c.now c.args.a.now c.args.b.now c.requires.1 c.load-sum.ensures (columns_lent c.requires.0 (replicate 10 0) refl) (columns_lent c.requires.0 (replicate 10 0) refl) c.load.ensures
+    product_right c.requires.0 c.args.c.now c.args.a.now c.args.b.now c.requires.1 c.load-sum.ensures
+    (columns_lent c.requires.0 (replicate 10 0) refl) (columns_lent c.requires.0 (replicate 10 0) refl) c.load.ensures
     c.load-2.ensures c.dot.ensures
 
 pub holds_spec : {M : Type 1} → statement M
