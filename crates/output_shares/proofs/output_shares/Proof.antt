@@ -16,99 +16,81 @@ use Rattle.forms.specs.Party.{committed}
 use Rattle.output_shares.proofs.output_shares.Statement.{statement}
 use Rattle.output_shares.proofs.output_shares.Tie as tie
 
-abbrev invariant-loop : tie.invariant-loop
+abbrev invariant-loop : tie.invariant-loop-i
 invariant-loop shape front key inverse tapes out₀ size sboxes' inverses₀ inputs₀ n i₀ out inverses inputs i =
     (i ≤ n) × (length inverses ≡ sboxes shape) × (length inputs ≡ sboxes shape)
     × Stacking (λ i. output_share (scheme_of shape) (committed front key inverse) i (row (total (tape_sizes shape)) i tapes)) 16 i (n * 16) out
 
-abbrev decreases-loop : tie.decreases-loop
+abbrev decreases-loop : tie.decreases-loop-i
 decreases-loop shape front key inverse tapes out₀ size sboxes' inverses₀ inputs₀ n i₀ out inverses inputs i = n - i
 
--- ---- earlier moments
-
-abbrev start-before-struct-known : tie.After-struct-known invariant-loop decreases-loop → tie.Start invariant-loop decreases-loop
-start-before-struct-known c = c.before.before.before.before.before.before.before
-
-abbrev walk-before-slice-known4 : tie.After-slice-known4 invariant-loop decreases-loop → tie.After-walk invariant-loop decreases-loop
-walk-before-slice-known4 c = c.before.before.before.before.before.before.before.before.before
-
-abbrev sized : tie.At-loop invariant-loop decreases-loop → tie.After-tape-length invariant-loop decreases-loop
-sized k = k.before.before.before.before
-
-abbrev start : tie.At-loop invariant-loop decreases-loop → tie.Start invariant-loop decreases-loop
-start k = (sized k).before.before.before.before.before.before
-
-module _ (c : tie.In-loop invariant-loop decreases-loop) where
-  abbrev k : tie.At-loop invariant-loop decreases-loop
+module _ (c : tie.In-loop-i invariant-loop decreases-loop) where
+  abbrev k : tie.At-loop-i invariant-loop decreases-loop
   k = c.before
 
-  abbrev s : tie.Start invariant-loop decreases-loop
-  s = start k
+  abbrev s : tie.At-loop-i invariant-loop decreases-loop
+  s = c.before
 
   abbrev size : ℕ
-  size = (sized k).tape-length.result
+  size = k.tape_length-size.result
 
   tape_size : size ≡ total (tape_sizes s.args.shape)
-  tape_size = (sized k).tape-length.ensures.0
+  tape_size = k.tape_length-size.ensures.0
 
   -- row i of the tapes is there
-  read : k.loop.i * size + size ≤ length s.args.tapes.now
-  read = omega (arith, row_fits size c.loop-test.true, s.pre.4, ap (s.args.shape.parties *◌) tape_size)
+  read : k.loop-i.i * size + size ≤ length s.args.tapes.now
+  read = omega (arith, row_fits size c.loop-i-test.true, s.requires.4, ap (s.args.shape.parties *◌) tape_size)
 
   most : length s.args.tapes.now ≤ 59136
-  most = omega (arith, s.pre.4, tapes_most s.pre.0 (tape_most s.pre.0))
+  most = omega (arith, s.requires.4, tapes_most s.requires.0 (tape_most s.requires.0))
 
-  tape_is : take (k.loop.i * size + size - k.loop.i * size) (drop (k.loop.i * size) s.args.tapes.now)
-      ≡ row (total (tape_sizes s.args.shape)) k.loop.i s.args.tapes.now
-  tape_is = row_cut k.loop.i size s.args.tapes.now ∙ ap (λ n. row n k.loop.i s.args.tapes.now) tape_size
+  tape_is : take (k.loop-i.i * size + size - k.loop-i.i * size) (drop (k.loop-i.i * size) s.args.tapes.now)
+      ≡ row (total (tape_sizes s.args.shape)) k.loop-i.i s.args.tapes.now
+  tape_is = row_cut k.loop-i.i size s.args.tapes.now ∙ ap (λ n. row n k.loop-i.i s.args.tapes.now) tape_size
 
-loop-holds : tie.Need-loop-init invariant-loop decreases-loop
+loop-holds : tie.Need-loop-i-init invariant-loop decreases-loop
 loop-holds c =
-    let s = start-before-struct-known c.before.before in
-    let lent = sboxes_lent s.pre.0 (replicate 200 0) refl in (search rules, lent, lent, stacking_none _ _ s.pre.5)
+    let lent = sboxes_lent c.requires.0 (replicate 200 0) refl in (search rules, lent, lent, stacking_none _ _ c.requires.5)
 
-walk-requires : tie.Need-walk-requires invariant-loop decreases-loop
+walk-requires : tie.Need-walk-share-requires invariant-loop decreases-loop
 walk-requires c κs =
     let t = c.before.before.before in
     let p = (s t).requires in
-    let long = row_long (k t).loop.i (size t) (s t).args.tapes.now (read t) ∙ tape_size t in
-    (p.0, p.1, p.2, p.3, long, (k t).loop.invariant.1, (k t).loop.invariant.2)
+    let long = row_long (k t).loop-i.i (size t) (s t).args.tapes.now (read t) ∙ tape_size t in
+    (p.0, p.1, p.2, p.3, long, (k t).loop-i.invariant.1, (k t).loop-i.invariant.2)
 
-copy-at-requires : tie.Need-copy-at-requires invariant-loop decreases-loop
+copy-at-requires : tie.Need-copy_at-requires invariant-loop decreases-loop
 copy-at-requires c κs =
-    let w = c.before.before.before.before.before.before in
-    let t = w.before.before.before.before in
-    let long : length w.walk.result ≡ 16 = search rules in
-    omega (arith, long, (k t).loop.invariant.3.long, row_fits 16 t.loop-test.true)
+    let t = c.before.before.before.before.before.before.before.before.before.before in
+    let long : length c.walk-share.result ≡ 16 = search rules in
+    omega (arith, long, (k t).loop-i.invariant.3.long, row_fits 16 t.loop-i-test.true)
 
-loop-again : tie.Need-loop-preserved invariant-loop decreases-loop
+loop-again : tie.Need-loop-i-preserved invariant-loop decreases-loop
 loop-again c =
-    let w = walk-before-slice-known4 c in
-    let t = w.before.before.before.before in
+    let t = c.before.before.before.before.before.before.before.before.before.before.before.before.before in
     let a = (s t).args in
-    let long : length w.walk.result ≡ 16 = search rules in
-    let same = ap (output_share (scheme_of a.shape) (committed a.front.now a.key.now a.inverse.now) (k t).loop.i) (tape_is t) in (
+    let long : length c.walk-share.result ≡ 16 = search rules in
+    let same = ap (output_share (scheme_of a.shape) (committed a.front.now a.key.now a.inverse.now) (k t).loop-i.i) (tape_is t) in (
       omega arith,
-      w.walk.kept.1.1.1.1.1.1.0 ∙ (k t).loop.inv.1,
-      w.walk.kept.1.1.1.1.1.1.1.0 ∙ (k t).loop.inv.2,
-      stacking_more (k t).loop.inv.3 long (w.walk.ensures.0 ∙ same) (row_fits 16 t.loop-test.taken) c.before.before.copy_at.ensures,
+      c.walk-share.auto.inverses ∙ (k t).loop-i.invariant.1,
+      c.walk-share.auto.inputs ∙ (k t).loop-i.invariant.2,
+      stacking_more (k t).loop-i.invariant.3 long (c.walk-share.ensures.0 ∙ same) (row_fits 16 t.loop-i-test.true) c.copy_at.ensures,
     )
 
-same_length : tie.Need-same-length invariant-loop decreases-loop
-same_length c = let k = c.before.before.before in k.loop.invariant.3.long ∙ sym (start k).requires.5
+same_length : tie.Need-shape_of-out invariant-loop decreases-loop
+same_length c = c.loop-i.invariant.3.long ∙ sym c.requires.5
 
 returns : tie.Need-returns invariant-loop decreases-loop
 returns c =
-    let k = c.before.before.before in
-    let e : k.loop.i ≡ (start k).args.shape.parties = omega arith in
-    stacking_all (rw e at k.loop.invariant.3) (omega arith)
+    let e : c.loop-i.i ≡ c.args.shape.parties = omega arith in
+    stacking_all (rw e at c.loop-i.invariant.3) (omega arith)
 
 pub output_shares_spec : {M : Type 1} → statement M
 output_shares_spec =
     tie.close
-    (tie.spec invariant-loop decreases-loop (λ c κs. search rules) (λ c. let v = (start-before-struct-known c).requires.0 in omega (arith, all_sboxes v, v.columns))
+    (tie.spec invariant-loop decreases-loop (λ c κs. search rules) (λ c. let v = c.requires.0 in omega (arith, all_sboxes v, v.columns))
     (λ c. search rules)
-    (λ c. search rules) (λ c. let v = (start-before-struct-known c).requires.0 in omega (arith, all_sboxes v, v.columns)) (λ c. search rules) (λ c. search rules)
-    (λ c. let v = (start-before-struct-known c.before).pre.0 in omega (arith, all_sboxes v, v.columns)) loop-holds
+    (λ c. search rules) (λ c. let v = c.requires.0 in omega (arith, all_sboxes v, v.columns)) (λ c. search rules) (λ c. search rules)
+    (λ c. let v = c.requires.0 in omega (arith, all_sboxes v, v.columns)) loop-holds
     (λ c. omega (arith, read c, most c)) (λ c. omega (arith, read c, most c)) (λ c. search rules) (λ c. search rules) (λ c. read c) walk-requires
     (λ c. search rules) (λ c. search rules) copy-at-requires (λ c. search rules) (λ c. search rules) loop-again same_length returns)
