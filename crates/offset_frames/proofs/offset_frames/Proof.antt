@@ -15,16 +15,16 @@ use Rattle.signing.specs.Loop.{Reworking, reworking_none, reworking_row, reworki
 use Rattle.offset_frames.proofs.offset_frames.Statement.{statement}
 use Rattle.offset_frames.proofs.offset_frames.Tie as tie
 
-abbrev invariant-loop : tie.invariant-loop
+abbrev invariant-loop : tie.invariant-loop-e
 invariant-loop shape us vs lasts firsts frames₀ len m n e₀ frames e =
     (e ≤ n)
     × Reworking (λ e. offset_frame shape us vs lasts (row (first_challenge_length shape) e firsts) (row (total (frame_sizes shape)) e frames₀))
     len e (n * len) frames₀ frames
 
-abbrev decreases-loop : tie.decreases-loop
+abbrev decreases-loop : tie.decreases-loop-e
 decreases-loop shape us vs lasts firsts frames₀ len m n e₀ frames e = n - e
 
-module _ (f : tie.After-frame-length invariant-loop decreases-loop) where
+module _ (f : tie.After-frame_length-len invariant-loop decreases-loop) where
   abbrev start : tie.Start invariant-loop decreases-loop
   start = f.before.before.before.before.before.before
 
@@ -32,76 +32,76 @@ module _ (f : tie.After-frame-length invariant-loop decreases-loop) where
   n = start.args.shape.executions
 
   abbrev len : ℕ
-  len = f.frame-length.result
+  len = f.frame_length-len.result
 
   size : len ≡ total (frame_sizes start.args.shape)
-  size = f.frame-length.ensures.0
+  size = f.frame_length-len.ensures.0
 
   whole : length start.args.frames.now ≡ n * len
-  whole = start.pre.2 ∙ ap (n *◌) (sym size)
+  whole = start.requires.2 ∙ ap (n *◌) (sym size)
 
   bound : n * len ≤ 25092
-  bound = subst (λ k. n * k ≤ 25092) (sym size) (frames_most start.pre.0.valid)
+  bound = subst (λ k. n * k ≤ 25092) (sym size) (frames_most start.requires.0.valid)
 
   abbrev m : ℕ
   m = first_challenge_length start.args.shape
 
   firsts_bound : n * m ≤ 2460
-  firsts_bound = firsts_most start.pre.0.valid
+  firsts_bound = firsts_most start.requires.0.valid
 
 -- ---- where frame and draws lie
 
-module _ (c : tie.In-loop invariant-loop decreases-loop) where
-  abbrev f : tie.After-frame-length invariant-loop decreases-loop
+module _ (c : tie.In-loop-e invariant-loop decreases-loop) where
+  abbrev f : tie.After-frame_length-len invariant-loop decreases-loop
   f = c.before.before.before
 
   abbrev e : ℕ
-  e = c.before.loop.e
+  e = c.loop-e.e
 
   fits : e * len f + len f ≤ n f * len f
-  fits = row_fits (len f) c.loop-test.true
+  fits = row_fits (len f) c.loop-e-test.true
 
   first_fits : e * m f + m f ≤ n f * m f
-  first_fits = row_fits (m f) c.loop-test.true
+  first_fits = row_fits (m f) c.loop-e-test.true
 
-offset-frame-requires : tie.Need-offset-frame-requires invariant-loop decreases-loop
+offset-frame-requires : tie.Need-offset_frame-requires invariant-loop decreases-loop
 offset-frame-requires c κs =
     let i = c.before.before in
-    let k = i.before in
-    let g = k.before.before in
+    let k = i in
+    let g = k.before.before.before in
     let s = start g in (
-      s.pre.0,
-      row_long k.loop.e (m g) s.args.firsts.now (omega (arith, first_fits i, s.pre.1)),
-      row_long k.loop.e (len g) k.loop.frames (omega (arith, fits i, k.loop.invariant.1.done.long)) ∙ size g,
+      s.requires.0,
+      row_long k.loop-e.e (m g) s.args.firsts.now (omega (arith, first_fits i, s.requires.1)),
+      row_long k.loop-e.e (len g) k.loop-e.frames (omega (arith, fits i, k.loop-e.invariant.1.done.long)) ∙ size g,
     )
 
-loop-again : tie.Need-loop-preserved invariant-loop decreases-loop
+loop-again : tie.Need-loop-e-preserved invariant-loop decreases-loop
 loop-again c =
-    let x = c.before.before in
-    let i = x.before.before.before in
-    let k = i.before in
-    let g = k.before.before in
+    let x = c in
+    let i = x.before.before.before.before.before in
+    let k = i in
+    let g = k in
     let a = (start g).args in
-    let e = k.loop.e in
+    let e = k.loop-e.e in
     let given = ap₂ (λ (f g : List ℕ). offset_frame a.shape a.us.now a.vs.now a.lasts.now f g)
-    (row_cut e (m g) a.firsts.now) (reworking_row k.loop.invariant.1 ∙ ap (λ z. row z e a.frames.now) (size g)) in
-    (omega arith, reworking_lent k.loop.invariant.1 (fits i) (x.offset-frame.ensures ∙ given) x.offset-frame.auto.1.1.1.1.1.0)
+    (row_cut e (m g) a.firsts.now) (reworking_row k.loop-e.invariant.1 ∙ ap (λ z. row z e a.frames.now) (size g)) in
+    (omega arith, reworking_lent k.loop-e.invariant.1 (fits i) (x.offset_frame.ensures ∙ given) x.offset_frame.auto.frame)
 
-same_length : tie.Need-same-length invariant-loop decreases-loop
-same_length c = let k = c.before in k.loop.invariant.1.done.long ∙ sym (whole k.before.before)
+same_length : tie.Need-shape_of-frames invariant-loop decreases-loop
+same_length c = let k = c in k.loop-e.invariant.1.done.long ∙ sym (whole k.before.before.before)
 
 returns : tie.Need-returns invariant-loop decreases-loop
 returns c =
-    let k = c.before in
-    let e : k.loop.e ≡ (start k.before.before).args.shape.executions = omega arith in
-    reworking_all (rw e at k.loop.invariant.1) (omega arith)
+    let k = c in
+    let e : k.loop-e.e ≡ (start k.before.before.before).args.shape.executions = omega arith in
+    reworking_all (rw e at k.loop-e.invariant.1) (omega arith)
 
 pub offset_frames_spec : {M : Type 1} → statement M
 offset_frames_spec =
     tie.close
     (tie.spec invariant-loop decreases-loop
-    (λ c κs. c.before.before.before.before.before.requires.0.valid)
-    (λ c. omega (arith, columns_most (start c.before).pre.0.valid))
+    (λ c κs. c.requires.0.valid)
+    (λ c. omega (arith, columns_most (start c.before).requires.0.valid))
     (λ c. (omega arith, reworking_none _ _ (whole c.before)))
     (λ c. omega (arith, first_fits c, firsts_bound (f c)))
     (λ c. omega (arith, first_fits c, firsts_bound (f c)))
@@ -109,13 +109,13 @@ offset_frames_spec =
     (λ c. omega (arith, fits c, bound (f c)))
     (λ c. omega arith)
     (λ c. omega arith)
-    (λ c. omega (arith, first_fits c, (start (f c)).pre.1))
+    (λ c. omega (arith, first_fits c, (start (f c)).requires.1))
     (λ c. omega arith)
     (λ c. omega arith)
-    (λ c. omega (arith, fits c.before, c.before.before.loop.invariant.1.done.long))
+    (λ c. omega (arith, fits c.before, c.loop-e.invariant.1.done.long))
     offset-frame-requires
-    (λ c. let i = c.before.before.before.before.before in omega (arith, i.loop-test.true, (start (f i)).pre.0.valid.brief))
-    (λ c. omega (arith, c.before.before.before.before.before.loop-test.true))
+    (λ c. let i = c.before.before.before.before.before in omega (arith, i.loop-e-test.true, (start (f i)).requires.0.valid.brief))
+    (λ c. omega (arith, c.loop-e-test.true))
     loop-again
     same_length
     returns)

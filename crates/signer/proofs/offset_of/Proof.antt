@@ -7,10 +7,10 @@ use Rattle.signer.proofs.offset_of.Tie as tie
 
 returns : tie.Need-returns
 returns c =
-    let at_xor_into = c.before.before in
-    let at_copy = at_xor_into.before.before.before.before in
-    let s = at_copy.before.before.before.before.before in
-    at_xor_into.xor-into.ensures ∙ ap (λ t. zip_xor t s.args.shares.now) at_copy.copy.ensures
+    let at_xor_into = c in
+    let at_copy = at_xor_into in
+    let s = at_copy in
+    at_xor_into.xor_into.ensures ∙ ap (λ t. zip_xor t s.args.shares.now) at_copy.copy.ensures
 
 pub offset_of_spec : {M : Type 1} → statement M
 offset_of_spec =

@@ -15,59 +15,59 @@ use Rattle.signer.proofs.offsets.Tie as tie
 
 -- ---- earlier moments
 
-abbrev hash-sum-before-product-offsets-arg : tie.After-product-offsets-arg → tie.After-hash-sum
-hash-sum-before-product-offsets-arg c = c.before.before.before.before.before.before.before.before.before.before.before
+abbrev hash-sum-before-product-offsets-arg : tie.After-product_offsets-arg-1 → tie.After-hash_sum
+hash-sum-before-product-offsets-arg c = c.before.before.before.before.before.before.before.before.before.before
 
-abbrev start-before-slice-known3 : tie.After-slice-known3 → tie.Start
+abbrev start-before-slice-known3 : tie.After-slice_known-3-1 → tie.Start
 start-before-slice-known3 c = c.before.before.before.before.before.before.before.before.before.before.before
 
-abbrev byte-offsets-before-slice-known7 : tie.After-slice-known7 → tie.After-byte-offsets
+abbrev byte-offsets-before-slice-known7 : tie.After-slice_known-7-1 → tie.After-byte_offsets
 byte-offsets-before-slice-known7 c = c.before.before.before.before.before.before.before.before.before
 
-abbrev start : tie.After-tape-length → tie.Start
+abbrev start : tie.After-tape_length-size → tie.Start
 start c = c.before.before.before.before.before.before.before.before.before.before.before.before
 
 -- the room that is lent for the sum: as long as a tape
-module _ (c : tie.After-tape-length) where
-  long : length {A = ℕ} (take (c.tape-length.result - 0) (replicate 462 0)) ≡ total (tape_sizes (start c).args.shape)
-  long = front_long (replicate 462 0) c.tape-length.ensures.0 c.tape-length.ensures.1
+module _ (c : tie.After-tape_length-size) where
+  long : length {A = ℕ} (take (c.tape_length-size.result - 0) (replicate 462 0)) ≡ total (tape_sizes (start c).args.shape)
+  long = front_long (replicate 462 0) c.tape_length-size.ensures.0 c.tape_length-size.ensures.1
 
 -- and so it stays
-abbrev sized : tie.After-hash-sum → tie.After-tape-length
+abbrev sized : tie.After-hash_sum → tie.After-tape_length-size
 sized c = c.before.before.before
 
-kept : (c : tie.After-hash-sum) → length c.hash-sum.new.1.1.1.1.1.0 ≡ total (tape_sizes (start (sized c)).args.shape)
-kept c = c.hash-sum.auto.1.1.1.1.1.0 ∙ long (sized c)
+kept : (c : tie.After-hash_sum) → length c.hash_sum.new.out ≡ total (tape_sizes (start (sized c)).args.shape)
+kept c = c.hash_sum.auto.out ∙ long (sized c)
 
-hash-sum-requires : tie.Need-hash-sum-requires
+hash-sum-requires : tie.Need-hash_sum-requires
 hash-sum-requires c κs =
     let k = c.before.before in
     let p = (start k).requires in
     let v = p.0.valid in (p.1, v.some, few_parties v, p.2, hash_room v (long k))
 
-byte-offsets-requires : tie.Need-byte-offsets-requires
+byte-offsets-requires : tie.Need-byte_offsets-requires
 byte-offsets-requires c κs =
-    let h = c.before.before.before.before.before in
+    let h = c.before.before.before.before in
     let p = (start (sized h)).requires in (p.0.valid, p.3, p.4, kept h, p.6, p.7)
 
-product-offsets-requires : tie.Need-product-offsets-requires
+product-offsets-requires : tie.Need-product_offsets-requires
 product-offsets-requires c κs =
     let h = hash-sum-before-product-offsets-arg c in
     let p = (start (sized h)).requires in (p.0, kept h, p.5, p.8)
 
 returns : tie.Need-returns
 returns c =
-    let at_product_offsets = c.before.before.before in
-    let at_byte_offsets = at_product_offsets.before.before.before.before.before.before in
-    let at_hash_sum = at_byte_offsets.before.before.before.before.before.before in
+    let at_product_offsets = c in
+    let at_byte_offsets = at_product_offsets in
+    let at_hash_sum = at_byte_offsets.before.before.before.before.before.before.before.before.before.before.before.before.before.before in
     let k = sized at_hash_sum in
     let s = start k in
     let a = s.args in
-    let sum = tapes_summed s.pre.0.valid a.salt.now a.seeds.now a.e (long k) at_hash_sum.hash-sum.ensures in (
-      at_byte_offsets.byte-offsets.ensures.0 ∙ ap (λ t. zip_xor a.key.now (tape_part (scheme_of a.shape) 0 t)) sum,
+    let sum = tapes_summed s.requires.0.valid a.salt.now a.seeds.now a.e (long k) at_hash_sum.hash_sum.ensures in (
+      at_byte_offsets.byte_offsets.ensures.0 ∙ ap (λ t. zip_xor a.key.now (tape_part (scheme_of a.shape) 0 t)) sum,
       (
-        at_byte_offsets.byte-offsets.ensures.1 ∙ ap (λ t. zip_xor a.inverses.now (tape_part (scheme_of a.shape) 1 t)) sum,
-        at_product_offsets.product-offsets.ensures
+        at_byte_offsets.byte_offsets.ensures.1 ∙ ap (λ t. zip_xor a.inverses.now (tape_part (scheme_of a.shape) 1 t)) sum,
+        at_product_offsets.product_offsets.ensures
             ∙ ap (λ t. worked_offsets a.shape a.us.now a.vs.now a.lasts.now t a.first.now) sum,
       ),
     )
@@ -76,7 +76,7 @@ pub offsets_spec : {M : Type 1} → statement M
 offsets_spec =
     tie.close
     (tie.spec (λ c κs. (start-before-slice-known3 c).requires.0.valid)
-    (λ c. zero-le) (λ c. zero-le) (λ c. c.tape-length.ensures.1) hash-sum-requires byte-offsets-requires product-offsets-requires
-    (λ c. (byte-offsets-before-slice-known7 c).byte-offsets.auto.1.1.1.1.0)
-    (λ c. (byte-offsets-before-slice-known7 c).byte-offsets.auto.1.1.1.1.1.0)
-    (λ c. c.before.before.before.product-offsets.auto.1.1.1.1.1.1.0) returns)
+    (λ c. zero-le) (λ c. zero-le) (λ c. c.tape_length-size.ensures.1) hash-sum-requires byte-offsets-requires product-offsets-requires
+    (λ c. (byte-offsets-before-slice-known7 c).byte_offsets.auto.offset)
+    (λ c. (byte-offsets-before-slice-known7 c).byte_offsets.auto.inverse)
+    (λ c. c.product_offsets.auto.out) returns)
