@@ -17,7 +17,7 @@ use Rattle.write_opening.proofs.Laws.{wrote_whole}
 use Rattle.write_opening.proofs.write.Statement.{statement}
 use Rattle.write_opening.proofs.write.Tie as tie
 
-module _ (z : tie.After-transcript-length) where
+module _ (z : tie.After-transcript_length-d) where
   abbrev start : tie.Start
   start = z.before.before.before.before.before.before.before.before.before.before
 
@@ -37,45 +37,45 @@ module _ (z : tie.After-transcript-length) where
 
   -- where the transcript ends
   abbrev d : ℕ
-  d = z.transcript-length.result
+  d = z.transcript_length-d.result
 
   room : length out ≡ d + 1 + S.depth * 16
-  room = omega (arith, start.pre.10, z.transcript-length.ensures.0)
+  room = omega (arith, start.requires.10, z.transcript_length-d.ensures.0)
 
 -- ---- what is written after each call
 
-module _ (c : tie.After-write-transcript) where
-  abbrev z1 : tie.After-transcript-length
+module _ (c : tie.After-write_transcript) where
+  abbrev z1 : tie.After-transcript_length-d
   z1 = c.before.before
 
   abbrev l1 : List ℕ
-  l1 = put_mid 0 (d z1 - 0) (out z1) c.write-transcript.new.1.1.1.1.1.1.1.1.1.1.0
+  l1 = put_mid 0 (d z1 - 0) (out z1) c.write_transcript.new.out
 
   w1 : Wrote (out z1) (transcript z1) (d z1) l1
   w1 =
-      wrote_lent (transcript z1) (d z1) (wrote_none (out z1)) (omega arith) (omega (arith, room z1)) c.write-transcript.ensures
-      c.write-transcript.auto.1.1.1.1.1.1.1.1.1.1.0
+      wrote_lent (transcript z1) (d z1) (wrote_none (out z1)) (omega arith) (omega (arith, room z1)) c.write_transcript.ensures
+      c.write_transcript.auto.out
 
   -- the hidden party
   w2 : Wrote (out z1) (transcript z1 ++ ((start z1).args.hidden ∷ [])) (d z1 + 1) (set l1 (d z1) (start z1).args.hidden)
   w2 = wrote_one (start z1).args.hidden w1 (omega (arith, room z1))
 
-module _ (c : tie.After-sibling-seeds) where
-  abbrev c1 : tie.After-write-transcript
+module _ (c : tie.After-sibling_seeds) where
+  abbrev c1 : tie.After-write_transcript
   c1 = c.before.before.before.before
 
-  abbrev z3 : tie.After-transcript-length
+  abbrev z3 : tie.After-transcript_length-d
   z3 = z1 c1
 
   w3 : Wrote (out z3) ((transcript z3 ++ ((start z3).args.hidden ∷ [])) ++ siblings z3) (length (out z3))
-      (put_mid (d z3 + 1) (length (out z3) - (d z3 + 1)) (set (l1 c1) (d z3) (start z3).args.hidden) c.sibling-seeds.new.1.1.1.1.1.1.0)
+      (put_mid (d z3 + 1) (length (out z3) - (d z3 + 1)) (set (l1 c1) (d z3) (start z3).args.hidden) c.sibling_seeds.new.out)
   w3 =
-      wrote_lent (siblings z3) (length (out z3)) (w2 c1) (omega (arith, room z3)) (le_refl _) c.sibling-seeds.ensures
-      c.sibling-seeds.auto.1.1.1.1.1.1.0
+      wrote_lent (siblings z3) (length (out z3)) (w2 c1) (omega (arith, room z3)) (le_refl _) c.sibling_seeds.ensures
+      c.sibling_seeds.auto.out
 
 -- ---- what each call asks
 
-write-transcript-requires : tie.Need-write-transcript-requires
+write-transcript-requires : tie.Need-write_transcript-requires
 write-transcript-requires c κs =
     let z = c.before in
     let p = (start z).requires in (
@@ -88,16 +88,16 @@ write-transcript-requires c κs =
       p.8,
       p.9,
       lent_long (d z) (wrote_none (out z)) (omega (arith, room z))
-          ∙ omega (arith, z.transcript-length.ensures.0),
+          ∙ omega (arith, z.transcript_length-d.ensures.0),
     )
 
-sibling-seeds-requires : tie.Need-sibling-seeds-requires
+sibling-seeds-requires : tie.Need-sibling_seeds-requires
 sibling-seeds-requires c κs =
     let w = c.before.before.before in
     let z = z1 w in
     let s = start z in
-    let few : 2 ^ (S z).depth ≤ 2 ^ 7 = pow_mono {i = (S z).depth} s.pre.0.shallow in
-    (s.pre.1, s.pre.2, lent_long (length (out z)) (w2 w) (le_refl _) ∙ omega (arith, room z), omega (arith, few))
+    let few : 2 ^ (S z).depth ≤ 2 ^ 7 = pow_mono {i = (S z).depth} s.requires.0.shallow in
+    (s.requires.1, s.requires.2, lent_long (length (out z)) (w2 w) (le_refl _) ∙ omega (arith, room z), omega (arith, few))
 
 returns : tie.Need-returns
 returns c =
@@ -108,9 +108,9 @@ returns c =
 pub write_spec : {M : Type 1} → statement M
 write_spec =
     tie.close
-    (tie.spec (λ c κs. search rules) (λ c. omega (arith, c.transcript-length.ensures.1)) (λ c. search rules) (λ c. search rules)
+    (tie.spec (λ c κs. search rules) (λ c. omega (arith, c.transcript_length-d.ensures.1)) (λ c. search rules) (λ c. search rules)
     (λ c. omega (arith, room c)) write-transcript-requires
-    (λ c. omega (arith, (start (z1 c.before.before)).pre.3))
+    (λ c. omega (arith, (start (z1 c.before.before)).requires.3))
     (λ c. let w = c.before.before in omega (arith, room (z1 w), (w1 w).long))
     (λ c. omega (arith, room (z1 c.before.before)))
     (λ c. omega (arith, room (z1 c.before.before)))

@@ -18,10 +18,10 @@ use Rattle.write_opening.proofs.Laws.{column_long}
 use Rattle.write_opening.proofs.write_column.Statement.{statement}
 use Rattle.write_opening.proofs.write_column.Tie as tie
 
-abbrev start-before-offset3 : tie.After-offset3 → tie.Start
+abbrev start-before-offset3 : tie.After-offset-a → tie.Start
 start-before-offset3 c = c.before.before.before.before.before.before.before
 
-module _ (c : tie.After-offset4) where
+module _ (c : tie.After-offset-b) where
   abbrev start : tie.Start
   start = start-before-offset3 c.before
 
@@ -45,35 +45,35 @@ module _ (c : tie.After-offset4) where
 
   -- a row's length, where its part k begins, where the field begins and ends
   abbrev stride : ℕ
-  stride = c.before.before.before.offset.result
+  stride = c.offset-stride.result
 
   abbrev at : ℕ
-  at = c.before.before.offset2.result
+  at = c.offset-at.result
 
   abbrev a : ℕ
-  a = c.before.offset3.result
+  a = c.offset-a.result
 
   abbrev b : ℕ
-  b = c.offset4.result
+  b = c.offset-b.result
 
   stride_is : stride ≡ total parts
-  stride_is = c.before.before.before.offset.ensures ∙ total_take_all parts (length parts) (le_refl _)
+  stride_is = c.offset-stride.ensures ∙ total_take_all parts (length parts) (le_refl _)
 
   part_fits : at + get_or parts k 0 ≤ stride
-  part_fits = omega (arith, stride_is, c.before.before.offset2.ensures, total_take_fits parts k)
+  part_fits = omega (arith, stride_is, c.offset-at.ensures, total_take_fits parts k)
 
   order : a ≤ b
-  order = field_order sizes f c.before.offset3.ensures c.offset4.ensures
+  order = field_order sizes f c.offset-a.ensures c.offset-b.ensures
 
   fits : b ≤ length out
-  fits = omega (arith, field_fits sizes f c.before.offset3.ensures c.offset4.ensures, start.pre.1)
+  fits = omega (arith, field_fits sizes f c.offset-a.ensures c.offset-b.ensures, start.requires.1)
 
   ends : a + n * get_or parts k 0 ≡ b
-  ends = omega (arith, field_end sizes f c.before.offset3.ensures c.offset4.ensures, start.pre.6)
+  ends = omega (arith, field_end sizes f c.offset-a.ensures c.offset-b.ensures, start.requires.6)
 
   column_is : column_of n stride at (get_or parts k 0) start.args.rows.now ≡ field_column parts k n start.args.rows.now
   column_is =
-      ap₂ (λ l i. column_of n l i (get_or parts k 0) start.args.rows.now) stride_is c.before.before.offset2.ensures
+      ap₂ (λ l i. column_of n l i (get_or parts k 0) start.args.rows.now) stride_is c.offset-at.ensures
       ∙ rows_cong n (λ i l. sym (field_part parts k (row (total parts) i start.args.rows.now)))
 
 column-requires : tie.Need-column-requires
@@ -83,25 +83,25 @@ column-requires c κs =
 
 returns : tie.Need-returns
 returns c =
-    let w = c.before.before in
-    let o = w.before.before.before in
+    let w = c in
+    let o = w.before.before.before.before.before in
     let s = field_column (parts o) (k o) (n o) (start o).args.rows.now in
-    put_mid_lem (a o) (b o - a o) (out o) w.column.new.1.1.1.1.1.0 s (w.column.ensures ∙ column_is o)
+    put_mid_lem (a o) (b o - a o) (out o) w.column.new.out s (w.column.ensures ∙ column_is o)
     (omega (arith, ends o, column_long (parts o) (k o) (n o) (start o).args.rows.now (start o).requires.5))
-    ∙ ap (λ i. put (out o) i s) o.before.offset3.ensures
+    ∙ ap (λ i. put (out o) i s) o.offset-a.ensures
 
-same_length : tie.Need-same-length
+same_length : tie.Need-shape_of-out
 same_length c =
-    let w = c.before.before in
-    let o = w.before.before.before in
-    same_len_mid (a o) (b o - a o) (out o) w.column.new.1.1.1.1.1.0 w.column.auto.1.1.1.1.1.0
+    let w = c in
+    let o = w.before.before.before.before.before in
+    same_len_mid (a o) (b o - a o) (out o) w.column.new.out w.column.auto.out
 
 pub write_column_spec : {M : Type 1} → statement M
 write_column_spec =
     tie.close
-    (tie.spec (λ c κs. (le_refl _, c.before.before.before.before.requires.4))
-    (λ c κs. let p = c.before.before.before.before.before.requires in (omega (arith, p.3), p.4))
-    (λ c κs. let p = c.before.before.before.before.before.before.requires in (omega (arith, p.0), p.2))
+    (tie.spec (λ c κs. (le_refl _, c.requires.4))
+    (λ c κs. let p = c.requires in (omega (arith, p.3), p.4))
+    (λ c κs. let p = c.requires in (omega (arith, p.0), p.2))
     (λ c. search rules)
     (λ c κs. let p = (start-before-offset3 c).requires in (omega (arith, p.0), p.2))
     (λ c. search rules) (λ c. search rules)

@@ -19,7 +19,7 @@ use Rattle.write_opening.proofs.write_head.Statement.{statement}
 use Rattle.write_opening.proofs.write_head.Tie as tie
 
 -- the parts and where they begin
-module _ (c : tie.After-offset2) where
+module _ (c : tie.After-offset-b) where
   abbrev start : tie.Start
   start = c.before.before.before.before.before.before.before
 
@@ -36,65 +36,63 @@ module _ (c : tie.After-offset2) where
   out = start.args.out.now
 
   abbrev a : ℕ
-  a = c.before.offset.result
+  a = c.offset-a.result
 
   abbrev b : ℕ
-  b = c.offset2.result
+  b = c.offset-b.result
 
   abbrev commits : List ℕ
   commits = rows (λ i. commitment (scheme_of start.args.shape) salt e i (row 16 i start.args.seeds.now)) n
 
   a_is : a ≡ 33
-  a_is = omega (arith, (offset_is c.before.before.before.transcript-sizes.ensures (transcript_most start.pre.0) 2 c.before.offset.ensures).0)
+  a_is = omega (arith, (offset_is c.transcript_sizes.ensures (transcript_most start.requires.0) 2 c.offset-a.ensures).0)
 
   b_is : b ≡ 33 + n * 32
-  b_is = omega (arith, (offset_is c.before.before.before.transcript-sizes.ensures (transcript_most start.pre.0) 3 c.offset2.ensures).0)
+  b_is = omega (arith, (offset_is c.transcript_sizes.ensures (transcript_most start.requires.0) 3 c.offset-b.ensures).0)
 
   room : b ≤ length out
-  room = omega (arith, b_is, start.pre.3)
+  room = omega (arith, b_is, start.requires.3)
 
 -- what is written
-module _ (c : tie.After-copy-at) where
-  abbrev z1 : tie.After-offset2
+module _ (c : tie.After-copy_at) where
+  abbrev z1 : tie.After-offset-b
   z1 = c.before.before
 
-  salted : Wrote (out z1) (salt z1) (length (salt z1)) c.copy_at.new.0
-  salted = wrote_put (salt z1) (wrote_none (out z1)) refl c.copy_at.ensures (omega arith) c.copy_at.auto.0
+  salted : Wrote (out z1) (salt z1) (length (salt z1)) c.copy_at.new.dst
+  salted = wrote_put (salt z1) (wrote_none (out z1)) refl c.copy_at.ensures (omega arith) c.copy_at.auto.dst
 
-  w1 : Wrote (out z1) (salt z1 ++ (e z1 ∷ [])) (a z1) (set c.copy_at.new.0 (length (salt z1)) (e z1))
-  w1 = wrote_to (omega (arith, a_is z1, (start z1).pre.1)) refl (wrote_one (e z1) salted (omega (arith, room z1, b_is z1, (start z1).pre.1)))
+  w1 : Wrote (out z1) (salt z1 ++ (e z1 ∷ [])) (a z1) (set c.copy_at.new.dst (length (salt z1)) (e z1))
+  w1 = wrote_to (omega (arith, a_is z1, (start z1).requires.1)) refl (wrote_one (e z1) salted (omega (arith, room z1, b_is z1, (start z1).requires.1)))
 
-module _ (c : tie.After-hash-rows) where
-  abbrev c1 : tie.After-copy-at
+module _ (c : tie.After-hash_rows) where
+  abbrev c1 : tie.After-copy_at
   c1 = c.before.before.before.before
 
-  abbrev z2 : tie.After-offset2
+  abbrev z2 : tie.After-offset-b
   z2 = z1 c1
 
   w2 : Wrote (out z2) ((salt z2 ++ (e z2 ∷ [])) ++ commits z2) (b z2)
-      (put_mid (a z2) (b z2 - a z2) (set c1.copy_at.last.0 (length (salt z2)) (e z2)) c.hash-rows.new.1.1.1.1.1.1.0)
+      (put_mid (a z2) (b z2 - a z2) (set c1.copy_at.new.dst (length (salt z2)) (e z2)) c.hash_rows.new.out)
   unfolding commitment party_hash
   w2 =
-      wrote_lent (commits z2) (b z2) (w1 c1) (omega (arith, a_is z2, b_is z2)) (room z2) c.hash-rows.ensures
-      c.hash-rows.auto.1.1.1.1.1.1.0
+      wrote_lent (commits z2) (b z2) (w1 c1) (omega (arith, a_is z2, b_is z2)) (room z2) c.hash_rows.ensures
+      c.hash_rows.auto.out
 
-offset-requires : tie.Need-offset-requires
+offset-requires : tie.Need-offset-a-requires
 offset-requires c κs =
-    let s = c.before.before.before.before.before in
-    let e = c.before.transcript-sizes.ensures in
-    (rw e (omega arith), sizes_fit e (transcript_most s.requires.0) (lit< tt))
+    let e = c.transcript_sizes.ensures in
+    (rw e (omega arith), sizes_fit e (transcript_most c.requires.0) (lit< tt))
 
-offset-requires-2 : tie.Need-offset-requires-2
+offset-requires-2 : tie.Need-offset-b-requires
 offset-requires-2 c κs =
-    let s = c.before.before.before.before.before.before in
-    let e = c.before.before.transcript-sizes.ensures in
-    (rw e (omega arith), sizes_fit e (transcript_most s.requires.0) (lit< tt))
+    let e = c.transcript_sizes.ensures in
+    (rw e (omega arith), sizes_fit e (transcript_most c.requires.0) (lit< tt))
 
-hash-rows-requires : tie.Need-hash-rows-requires
+hash-rows-requires : tie.Need-hash_rows-requires
 hash-rows-requires c κs =
     let k = c.before.before.before in
     let z = z1 k in
-    let p = (start z).pre in
+    let p = (start z).requires in
     (p.1, omega (arith, p.0.few), p.2, lent_long (b z) (w1 k) (room z) ∙ omega (arith, a_is z, b_is z))
 
 returns : tie.Need-returns
@@ -106,9 +104,9 @@ returns c =
 pub write_head_spec : {M : Type 1} → statement M
 write_head_spec =
     tie.close
-    (tie.spec (λ c κs. search rules) (λ c. sym (ap length c.before.transcript-sizes.ensures)) offset-requires offset-requires-2
+    (tie.spec (λ c κs. search rules) (λ c. sym (ap length c.transcript_sizes.ensures)) offset-requires offset-requires-2
     (λ c κs. let z = c.before in omega (arith, room z, b_is z, (start z).requires.1))
-    (λ c. let k = c.before.before in let z = z1 k in omega (arith, room z, b_is z, (start z).pre.1, (salted k).long))
+    (λ c. let k = c.before.before in let z = z1 k in omega (arith, room z, b_is z, (start z).requires.1, (salted k).long))
     (λ c. let z = z1 c.before.before in omega (arith, a_is z, b_is z))
     (λ c. let z = z1 c.before.before in omega (arith, a_is z, b_is z))
     (λ c. let k = c.before.before in omega (arith, room (z1 k), (w1 k).long))

@@ -44,52 +44,52 @@ module _ (s : tie.Start) where
   q = p + length product
 
   room : q + wide ≤ length out
-  room = omega (arith, middle_long wide key inverse first product s.args.second, s.pre.1)
+  room = omega (arith, middle_long wide key inverse first product s.args.second, s.requires.1)
 
   begun : at ≤ length out
   begun = omega (arith, room)
 
 -- the entry, seen from after each call, and what is written there
-module _ (c : tie.After-copy-at) where
+module _ (c : tie.After-copy_at) where
   abbrev s1 : tie.Start
   s1 = c.before.before.before.before.before.before.before
 
-  w1 : Wrote (out s1) (take (at s1) (out s1) ++ key s1) (at s1 + length (key s1)) c.copy_at.new.0
-  w1 = wrote_more (key s1) (wrote_here (at s1) (out s1) (begun s1)) refl c.copy_at.ensures c.copy_at.auto.0
+  w1 : Wrote (out s1) (take (at s1) (out s1) ++ key s1) (at s1 + length (key s1)) c.copy_at.new.dst
+  w1 = wrote_more (key s1) (wrote_here (at s1) (out s1) (begun s1)) refl c.copy_at.ensures c.copy_at.auto.dst
 
-module _ (c : tie.After-copy-at2) where
+module _ (c : tie.After-copy_at-2) where
   abbrev s2 : tie.Start
   s2 = s1 c.before.before.before.before
 
-  w2 : Wrote (out s2) ((take (at s2) (out s2) ++ key s2) ++ inverse s2) (at s2 + length (key s2) + length (inverse s2)) c.copy-at2.new.0
-  w2 = wrote_more (inverse s2) (w1 c.before.before.before.before) refl c.copy-at2.ensures c.copy-at2.auto.0
+  w2 : Wrote (out s2) ((take (at s2) (out s2) ++ key s2) ++ inverse s2) (at s2 + length (key s2) + length (inverse s2)) c.copy_at-2.new.dst
+  w2 = wrote_more (inverse s2) (w1 c.before.before.before.before) refl c.copy_at-2.ensures c.copy_at-2.auto.dst
 
-module _ (c : tie.After-copy-at3) where
+module _ (c : tie.After-copy_at-3) where
   abbrev s3 : tie.Start
   s3 = s2 c.before.before.before.before
 
-  w3 : Wrote (out s3) (((take (at s3) (out s3) ++ key s3) ++ inverse s3) ++ first s3) (p s3) c.copy-at3.new.0
-  w3 = wrote_more (first s3) (w2 c.before.before.before.before) refl c.copy-at3.ensures c.copy-at3.auto.0
+  w3 : Wrote (out s3) (((take (at s3) (out s3) ++ key s3) ++ inverse s3) ++ first s3) (p s3) c.copy_at-3.new.dst
+  w3 = wrote_more (first s3) (w2 c.before.before.before.before) refl c.copy_at-3.ensures c.copy_at-3.auto.dst
 
-module _ (c : tie.After-copy-at4) where
+module _ (c : tie.After-copy_at-4) where
   abbrev s4 : tie.Start
   s4 = s3 c.before.before.before.before
 
-  w4 : Wrote (out s4) ((((take (at s4) (out s4) ++ key s4) ++ inverse s4) ++ first s4) ++ product s4) (q s4) c.copy-at4.new.0
-  w4 = wrote_more (product s4) (w3 c.before.before.before.before) refl c.copy-at4.ensures c.copy-at4.auto.0
+  w4 : Wrote (out s4) ((((take (at s4) (out s4) ++ key s4) ++ inverse s4) ++ first s4) ++ product s4) (q s4) c.copy_at-4.new.dst
+  w4 = wrote_more (product s4) (w3 c.before.before.before.before) refl c.copy_at-4.ensures c.copy_at-4.auto.dst
 
 module _ (c : tie.After-store) where
   abbrev s5 : tie.Start
   s5 = s4 c.before.before.before.before
 
   w5 : Wrote (out s5) (((((take (at s5) (out s5) ++ key s5) ++ inverse s5) ++ first s5) ++ product s5) ++ second s5) (q s5 + wide s5)
-      c.store.new.0
+      c.store.new.s
   w5 =
       wrote_more (second s5) (w4 c.before.before.before.before) (length_bytes_of (wide s5) s5.args.second) c.store.ensures
-      c.store.auto.0
+      c.store.auto.s
 
 -- what has to fit into a number
-module _ (c : tie.After-slice-known) where
+module _ (c : tie.After-slice_known-1) where
   abbrev s0 : tie.Start
   s0 = c.before.before.before.before.before
 
