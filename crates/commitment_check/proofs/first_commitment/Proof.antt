@@ -7,59 +7,59 @@ use Rattle.commitment_check.proofs.Commitments.{all_hashed, differing}
 use Rattle.commitment_check.proofs.first_commitment.Statement.{statement}
 use Rattle.commitment_check.proofs.first_commitment.Tie as tie
 
-abbrev start : tie.After-transcript-sizes → tie.Start
+abbrev start : tie.After-transcript_sizes-sizes → tie.Start
 start z = z.before.before.before.before
 
-abbrev sized : tie.After-hash-rows → tie.After-transcript-sizes
+abbrev sized : tie.After-hash_rows → tie.After-transcript_sizes-sizes
 sized h = h.before.before.before.before
 
-abbrev hashed : tie.After-sizes2 → tie.After-hash-rows
+abbrev hashed : tie.After-sizes-2-1 → tie.After-hash_rows
 hashed c = c.before.before.before
 
 field-requires : tie.Need-field-requires
 field-requires c κs =
     let z = c.before in
     let s = start z in
-    transcript_fits s.pre.0 s.args.transcript.now z.transcript-sizes.ensures s.pre.1 _ (omega arith)
+    transcript_fits s.requires.0 s.args.transcript.now z.transcript_sizes-sizes.ensures s.requires.1 _ (omega arith)
 
-hash-rows-requires : tie.Need-hash-rows-requires
+hash-rows-requires : tie.Need-hash_rows-requires
 hash-rows-requires c κs =
-    let f = c.before in
-    let z = f.before.before in
+    let f = c in
+    let z = f.before.before.before in
     let s = start z in (
-      field_size s.args.shape s.args.transcript.now 0 z.transcript-sizes.ensures s.pre.1 f.field.ensures,
-      omega (arith, s.pre.0.few),
-      s.pre.3,
-      s.pre.4,
+      field_size s.args.shape s.args.transcript.now 0 z.transcript_sizes-sizes.ensures s.requires.1 f.field.ensures,
+      omega (arith, s.requires.0.few),
+      s.requires.3,
+      s.requires.4,
     )
 
-field-requires-2 : tie.Need-field-requires-2
+field-requires-2 : tie.Need-field-stated-requires
 field-requires-2 c κs =
     let z = sized (hashed c) in
     let s = start z in
-    transcript_fits s.pre.0 s.args.transcript.now z.transcript-sizes.ensures s.pre.1 _ (omega arith)
+    transcript_fits s.requires.0 s.args.transcript.now z.transcript_sizes-sizes.ensures s.requires.1 _ (omega arith)
 
-first-difference-requires : tie.Need-first-difference-requires
+first-difference-requires : tie.Need-first_difference-requires
 first-difference-requires c κs =
-    let g = c.before in
+    let g = c in
     let h = hashed g.before in
     let z = sized h in
     let s = start z in (
-      h.hash-rows.kept.1.1.1.1.1.1.0 ∙ s.pre.4,
-      field_size s.args.shape s.args.transcript.now 2 z.transcript-sizes.ensures s.pre.1 g.field2.ensures,
+      h.hash_rows.auto.out ∙ s.requires.4,
+      field_size s.args.shape s.args.transcript.now 2 z.transcript_sizes-sizes.ensures s.requires.1 g.field-stated.ensures,
     )
 
 returns : tie.Need-returns
 returns c =
-    let g = c.before.before in
-    let h = hashed g.before in
+    let g = c in
+    let h = hashed g.before.before in
     let z = sized h in
     let s = start z in
-    let f = h.before.before in (
-      differing s.args.shape s.args.transcript.now s.args.seeds.now s.args.e z.transcript-sizes.ensures f.field.ensures
-          h.hash-rows.ensures s.args.hidden g.field2.ensures c.first-difference.ensures,
-      all_hashed s.args.shape s.args.transcript.now s.args.seeds.now s.args.e z.transcript-sizes.ensures f.field.ensures
-          h.hash-rows.ensures,
+    let f = h in (
+      differing s.args.shape s.args.transcript.now s.args.seeds.now s.args.e z.transcript_sizes-sizes.ensures f.field.ensures
+          h.hash_rows.ensures s.args.hidden g.field-stated.ensures c.first_difference.ensures,
+      all_hashed s.args.shape s.args.transcript.now s.args.seeds.now s.args.e z.transcript_sizes-sizes.ensures f.field.ensures
+          h.hash_rows.ensures,
     )
 
 pub first_commitment_spec : {M : Type 1} → statement M
