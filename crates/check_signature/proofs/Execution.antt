@@ -22,7 +22,7 @@ use Rattle.banquet.specs.Shape.{first_challenge_length}
 use Rattle.banquet.specs.Sets.{scheme_of}
 use Rattle.banquet.specs.Hash.{evaluation_point, party_of, first_challenge, second_challenge, hidden_party}
 use Rattle.banquet.specs.Signature.{signature_salt, signature_h1, signature_h3, frame_of, frame_h1_part, frame_h3_part}
-use Rattle.sets.specs.Bounds.{firsts_most}
+use Rattle.sets.proofs.Bounds.{firsts_most}
 use Rattle.challenges.specs.Challenges.{second_wide, hidden_lt}
 use Rattle.frames.specs.Frames.{sized_frame}
 use Rattle.frame_hashes.specs.Given.{Given}

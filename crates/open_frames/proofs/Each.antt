@@ -12,7 +12,7 @@ use Rattle.banquet.specs.declared.Shape.{Shape}
 use Rattle.banquet.specs.Shape.{frame_sizes, first_challenge_length}
 use Rattle.banquet.specs.Hash.{evaluation_point}
 use Rattle.sets.specs.Valid.{Valid}
-use Rattle.sets.specs.Bounds.{firsts_most}
+use Rattle.sets.proofs.Bounds.{firsts_most}
 use Rattle.frames.specs.Frames.{frames_most}
 
 -- what an execution makes of the front, the salt, its root, its number, its challenges and its frame

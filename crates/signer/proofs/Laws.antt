@@ -10,7 +10,7 @@ use Rattle.banquet.specs.Shape.{tape_sizes}
 use Rattle.banquet.specs.Sets.{scheme_of}
 use Rattle.banquet.specs.Hash.{tape}
 use Rattle.sets.specs.Valid.{Valid}
-use Rattle.sets.specs.Bounds.{tape_most}
+use Rattle.sets.proofs.Bounds.{tape_most}
 use Rattle.party.specs.Party.{party_hash}
 
 module _ {S : Shape} (v : Valid S) where

@@ -12,7 +12,8 @@ use Rattle.slices.proofs.Rows.{row_fits}
 use Rattle.banquet.specs.declared.Shape.{Shape}
 use Rattle.banquet.specs.Shape.{transcript_sizes}
 use Rattle.sets.specs.Valid.{Valid}
-use Rattle.sets.specs.Bounds.{row_sizes, row_most, transcript_most}
+use Rattle.sets.specs.Bounds.{row_sizes}
+use Rattle.sets.proofs.Bounds.{row_most, transcript_most}
 use Rattle.forms.specs.Stated.{stated_row}
 
 -- ---- fields of a transcript

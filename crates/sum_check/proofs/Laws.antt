@@ -13,7 +13,8 @@ use Rattle.banquet.specs.declared.Answer.{Answer}
 use Rattle.banquet.specs.declared.Answer.TheVariants.{Accepted, ShareDiffers, ProductDiffers}
 use Rattle.banquet.specs.Answer.{require}
 use Rattle.sets.specs.Valid.{Valid}
-use Rattle.sets.specs.Bounds.{row_sizes, row_most}
+use Rattle.sets.specs.Bounds.{row_sizes}
+use Rattle.sets.proofs.Bounds.{row_most}
 use Rattle.forms.specs.Sums.{bytes_product_holds, row_product_holds, sums_answer}
 
 -- ---- fields of a row

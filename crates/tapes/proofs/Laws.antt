@@ -10,7 +10,7 @@ use Rattle.banquet.specs.Shape.{tape_sizes}
 use Rattle.banquet.specs.Sets.{scheme_of}
 use Rattle.banquet.specs.Execution.{tape_part}
 use Rattle.sets.specs.Valid.{Valid}
-use Rattle.sets.specs.Bounds.{tape_most}
+use Rattle.sets.proofs.Bounds.{tape_most}
 
 module _ {S : Shape} (v : Valid S) where
   pub sizes_fit : {k : ℕ} {sizes : List ℕ} (t : List ℕ) → sizes ≡ tape_sizes S → k < 4 → length t ≡ total (tape_sizes S)

@@ -19,7 +19,8 @@ use Rattle.banquet.specs.Hash.{commitment}
 use Rattle.fields.specs.Offsets.{sizes_fit}
 use Rattle.fields.proofs.Wrote.{wrote_field}
 use Rattle.sets.specs.Valid.{Valid}
-use Rattle.sets.specs.Bounds.{row_sizes, row_most, transcript_most}
+use Rattle.sets.specs.Bounds.{row_sizes}
+use Rattle.sets.proofs.Bounds.{row_most, transcript_most}
 use Rattle.write_opening.specs.Written.{head, middle, field_column, written_transcript}
 
 -- ---- parts written one after the other

@@ -7,7 +7,8 @@ use lib.Dec.{lit≤}
 use lib.ListN.{length}
 use Rattle.slices.proofs.Counts.{in_word}
 use Rattle.banquet.specs.Shape.{head_length, first_challenge_length}
-use Rattle.sets.specs.Bounds.{columns_most, firsts_most, seconds_most, thirds_most}
+use Rattle.sets.specs.Bounds.{columns_most, seconds_most, thirds_most}
+use Rattle.sets.proofs.Bounds.{firsts_most}
 use Rattle.check_signature.proofs.Execution.{drawn_front, array_kept}
 use Rattle.check_signature.proofs.recomputed.Statement.{statement}
 use Rattle.check_signature.proofs.recomputed.Tie as tie

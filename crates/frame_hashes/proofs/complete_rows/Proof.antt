@@ -11,7 +11,8 @@ use Rattle.slices.proofs.Put.{Wrote, wrote_none, wrote_more, front_long}
 use Rattle.complete.specs.Complete.{completed_row}
 use Rattle.banquet.specs.Sets.{scheme_of}
 use Rattle.banquet.specs.Key.{ciphertext_of}
-use Rattle.sets.specs.Bounds.{row_sizes, row_most}
+use Rattle.sets.specs.Bounds.{row_sizes}
+use Rattle.sets.proofs.Bounds.{row_most}
 use Rattle.sets.specs.PublicKey.{ciphertext_long}
 use Rattle.frame_hashes.proofs.Laws.{sums_long, whole_written}
 use Rattle.frame_hashes.proofs.complete_rows.Statement.{statement}

@@ -8,7 +8,8 @@ use Rattle.slices.specs.Layout.{total}
 use Rattle.slices.proofs.Put.{front_long}
 use Rattle.banquet.specs.Shape.{frame_sizes, first_challenge_length}
 use Rattle.sets.specs.Valid.{Valid}
-use Rattle.sets.specs.Bounds.{columns_most, firsts_most}
+use Rattle.sets.specs.Bounds.{columns_most}
+use Rattle.sets.proofs.Bounds.{firsts_most}
 use Rattle.make_signature.proofs.answer_passes.Statement.{statement}
 use Rattle.make_signature.proofs.answer_passes.Tie as tie
 

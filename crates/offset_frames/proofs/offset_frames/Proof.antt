@@ -8,7 +8,8 @@ use Rattle.slices.specs.Lists.{row}
 use Rattle.slices.specs.Layout.{total}
 use Rattle.slices.proofs.Rows.{row_fits, row_long, row_cut}
 use Rattle.banquet.specs.Shape.{frame_sizes, first_challenge_length}
-use Rattle.sets.specs.Bounds.{columns_most, firsts_most}
+use Rattle.sets.specs.Bounds.{columns_most}
+use Rattle.sets.proofs.Bounds.{firsts_most}
 use Rattle.frames.specs.Frames.{frames_most}
 use Rattle.signing.specs.Steps.{offset_frame}
 use Rattle.signing.specs.Loop.{Reworking, reworking_none, reworking_row, reworking_lent, reworking_all}

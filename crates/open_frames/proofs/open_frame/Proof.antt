@@ -8,7 +8,8 @@ use borrow.Rule.Slice.PartMut.{put_mid, same_len_mid}
 use Rattle.slices.specs.Lists.{sum_xor}
 use Rattle.slices.specs.Layout.{total}
 use Rattle.slices.proofs.Put.{front_long}
-use Rattle.sets.specs.Bounds.{row_sizes, row_most, all_sboxes}
+use Rattle.sets.specs.Bounds.{row_sizes, all_sboxes}
+use Rattle.sets.proofs.Bounds.{row_most}
 use Rattle.frames.specs.Frames.{frame_total}
 use Rattle.signing.specs.Steps.{offsets_at, witness_length, opened_length, frame_shares}
 use Rattle.open_frames.proofs.Laws.{rest_again, sums_made, frame_opened, part_opened}

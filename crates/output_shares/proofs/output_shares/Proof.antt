@@ -10,7 +10,8 @@ use Rattle.slices.proofs.Rows.{Stacking, stacking_none, stacking_more, stacking_
 use Rattle.banquet.specs.Shape.{sboxes, tape_sizes}
 use Rattle.banquet.specs.Sets.{scheme_of}
 use Rattle.banquet.specs.Execution.{output_share}
-use Rattle.sets.specs.Bounds.{all_sboxes, tape_most, tapes_most}
+use Rattle.sets.specs.Bounds.{all_sboxes, tapes_most}
+use Rattle.sets.proofs.Bounds.{tape_most}
 use Rattle.sets.specs.Room.{sboxes_lent}
 use Rattle.forms.specs.Party.{committed}
 use Rattle.output_shares.proofs.output_shares.Statement.{statement}

@@ -4,7 +4,7 @@ use Rattle.std.proofs.Math.Seq.{length-take-le}
 use borrow.Rule.Slice.PartMut.{same_len_mid}
 use Rattle.slices.specs.Numbers.{bytes_of, length_bytes_of}
 use Rattle.fields.specs.Offsets.{offset_is}
-use Rattle.sets.specs.Bounds.{row_most}
+use Rattle.sets.proofs.Bounds.{row_most}
 use Rattle.party_shares.proofs.Laws.{rest_long, row_size, output_room, row_is, put_row}
 use Rattle.party_shares.proofs.party_row.Goals as goal
 

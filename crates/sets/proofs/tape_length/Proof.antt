@@ -3,7 +3,7 @@ use native.Mathlib.Omega.{arith}
 use lib.Dec.{lit<}
 use borrow.Author.Rules.{rules}
 use Rattle.fields.specs.Offsets.{sizes_fit, offset_is}
-use Rattle.sets.specs.Bounds.{tape_most}
+use Rattle.sets.proofs.Bounds.{tape_most}
 use Rattle.sets.proofs.tape_length.Statement.{statement}
 use Rattle.sets.proofs.tape_length.Tie as tie
 

@@ -3,7 +3,7 @@ use mathlib.Core.Path.{sym, ap, ◌∙◌}
 use Prim.Native.Nat.{◌*◌, zero-le}
 use native.Mathlib.Omega.{arith}
 use borrow.Author.Rules.{rules}
-use Rattle.sets.specs.Bounds.{row_most}
+use Rattle.sets.proofs.Bounds.{row_most}
 use Rattle.share_check.proofs.Rows.{row_differs, rows_agree}
 use Rattle.share_check.proofs.compare_rows.Statement.{statement}
 use Rattle.share_check.proofs.compare_rows.Tie as tie

@@ -13,7 +13,7 @@ use Rattle.banquet.specs.Sets.{scheme_of}
 use Rattle.banquet.specs.Hash.{commitment}
 use Rattle.party.specs.Party.{party_hash}
 use Rattle.fields.specs.Offsets.{sizes_fit, offset_is}
-use Rattle.sets.specs.Bounds.{transcript_most}
+use Rattle.sets.proofs.Bounds.{transcript_most}
 use Rattle.write_opening.proofs.Laws.{placed, wrote_to, wrote_put}
 use Rattle.write_opening.proofs.write_head.Statement.{statement}
 use Rattle.write_opening.proofs.write_head.Tie as tie

@@ -11,7 +11,7 @@ use Rattle.slices.proofs.Put.{Wrote, wrote_none}
 use Rattle.banquet.specs.declared.Shape.{Shape}
 use Rattle.banquet.specs.Shape.{transcript_sizes}
 use Rattle.fields.specs.Offsets.{sizes_fit, offset_is}
-use Rattle.sets.specs.Bounds.{transcript_most}
+use Rattle.sets.proofs.Bounds.{transcript_most}
 use Rattle.write_opening.specs.Written.{head, middle, field_column}
 use Rattle.write_opening.proofs.Laws.{wrote_put, wrote_whole, head_long, middle_long, Known, column_asked, wrote_column, laid}
 use Rattle.write_opening.proofs.write_transcript.Statement.{statement}

@@ -1,0 +1,2 @@
+-- The bounds that lean on those of specs/Bounds.
+pub mod Bounds
