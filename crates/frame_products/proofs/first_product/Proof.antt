@@ -6,7 +6,6 @@ use Prim.Native.Nat.{ℕ, ◌-◌, ◌≤◌}
 use native.Mathlib.Nat.{sub-zero}
 use native.Mathlib.Omega.{arith}
 use borrow.Author.Rules.{rules}
-use borrow.Author.Tests.{not-true, not-false}
 use Rattle.compare.specs.Lowest.{lowest, lowest_here, lowest_next, lowest_end}
 use Rattle.banquet.specs.declared.Shape.{Shape}
 use Rattle.banquet.specs.Sets.{scheme_of}
@@ -18,34 +17,34 @@ use Rattle.frame_products.proofs.first_product.Tie as tie
 abbrev passes : Shape → List ℕ → ℕ → Bool
 passes S s e = frame_holds (scheme_of S) (frame_of (scheme_of S) s e)
 
-abbrev invariant-loop : tie.invariant-loop
+abbrev invariant-loop : tie.invariant-loop-e
 invariant-loop shape s n e₀ e = (e ≤ n) × (lowest n 0 (passes shape s) ≡ lowest (n - e) e (passes shape s))
 
-abbrev decreases-loop : tie.decreases-loop
+abbrev decreases-loop : tie.decreases-loop-e
 decreases-loop shape s n e₀ e = n - e
 
-loop-holds : tie.Need-loop-init invariant-loop decreases-loop
-loop-holds c = (search rules, rw (sub-zero c.before.args.shape.executions))
+loop-holds : tie.Need-loop-e-init invariant-loop decreases-loop
+loop-holds c = (search rules, rw (sub-zero c.args.shape.executions))
 
-returns : tie.Need-returns invariant-loop decreases-loop
+returns : tie.Need-returns-then-not-frame_holds invariant-loop decreases-loop
 returns c =
-    let f = c.before in
-    let l = f.before.before in
-    sym (l.loop.invariant.1 ∙ lowest_here _ _ _ (omega arith) (sym f.frame-holds.ensures ∙ not-true f.frame-holds.result c.if1.true))
+    let f = c in
+    let l = f in
+    sym (l.loop-e.invariant.1 ∙ lowest_here _ _ _ (omega arith) (sym f.frame_holds.ensures ∙ c.if-not-frame_holds.true))
 
-loop-again : tie.Need-loop-preserved invariant-loop decreases-loop
+loop-again : tie.Need-loop-e-preserved invariant-loop decreases-loop
 loop-again c =
-    let f = c.before in
-    let l = f.before.before in (
+    let f = c in
+    let l = f in (
       omega arith,
-      l.loop.invariant.1
-          ∙ lowest_next _ _ _ (omega arith) (sym f.frame-holds.ensures ∙ not-false f.frame-holds.result c.if1.false),
+      l.loop-e.invariant.1
+          ∙ lowest_next _ _ _ (omega arith) (sym f.frame_holds.ensures ∙ c.if-not-frame_holds.false),
     )
 
-returns-2 : tie.Need-returns-2 invariant-loop decreases-loop
+returns-2 : tie.Need-returns invariant-loop decreases-loop
 returns-2 c =
-    let l = c.before.loop in
-    let n : l.e ≡ c.before.before.before.args.shape.executions = omega arith in
+    let l = c.loop-e in
+    let n : l.e ≡ c.args.shape.executions = omega arith in
     sym (l.invariant.1 ∙ lowest_end _ _ _ (omega arith) ∙ n)
 
 pub first_product_spec : {M : Type 1} → statement M
