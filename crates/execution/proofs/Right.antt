@@ -21,7 +21,8 @@ use Rattle.theorems.specs.Shares.{IsTape, hashed_tape, tape_bytes}
 use Rattle.sets.specs.Valid.{Valid}
 use Rattle.sets.specs.Laws.{laws}
 use Rattle.forms.specs.Point.{near, far, tables_at, xor_sum}
-use Rattle.forms.specs.Party.{own, committed, worked_row, share_row, Right, row_right}
+use Rattle.forms.specs.Party.{own, committed, worked_row, share_row, Right}
+use Rattle.forms.proofs.Party.{row_right}
 
 -- ---- sums
 

@@ -30,7 +30,8 @@ use Rattle.sets.specs.Laws.{laws}
 use Rattle.sets.specs.Bounds.{row_sizes}
 use Rattle.forms.specs.Party.{share_row, committed}
 use Rattle.forms.specs.Stated.{stated_row, row_same}
-use Rattle.forms.specs.Sums.{sums_answer, length_stated, sums_outputs, sums_product}
+use Rattle.forms.specs.Sums.{sums_answer}
+use Rattle.forms.proofs.Sums.{length_stated, sums_outputs, sums_product}
 use Rattle.share_check.specs.Steps.{Given, made_row, rows_answer}
 use Rattle.share_check.proofs.Halves.{halves_read}
 
