@@ -1,6 +1,3 @@
--- AES-128: the definitions that contracts cite (Aes), examples of the standard, and laws.
+-- AES-128: the definitions that contracts cite (Aes), and examples of the standard. Laws stand in proofs/.
 pub mod Aes
 pub mod Examples
-pub mod Zero
-pub mod Sizes
-pub mod KeyExpansion

@@ -11,8 +11,8 @@ use borrow.Author.Tests.{eq-eqb, ne_eqb}
 use Rattle.slices.specs.Lists.{same}
 use Rattle.field.specs.Byte.{inverse8}
 use Rattle.aes.specs.Aes.{aes, sbox_inputs, first_zero}
-use Rattle.aes.specs.Sizes.{length_sbox_inputs}
-use Rattle.aes.specs.Zero.{first_zero_le}
+use Rattle.aes.proofs.Sizes.{length_sbox_inputs}
+use Rattle.aes.proofs.Zero.{first_zero_le}
 use Rattle.banquet.specs.declared.Shape.{Shape}
 use Rattle.banquet.specs.declared.Answer.{Answer}
 use Rattle.banquet.specs.declared.Answer.TheVariants.{Accepted, ZeroInput, WrongKey}

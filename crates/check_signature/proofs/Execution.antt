@@ -16,7 +16,7 @@ use Rattle.absorb_rows.proofs.Laws.{part_more}
 use Rattle.stream.specs.declared.Sponge.{Sponge}
 use Rattle.stream.specs.Stream.{absorbed}
 use Rattle.shake.specs.Shake128.{shake128}
-use Rattle.shake.specs.Laws.{sized_shake}
+use Rattle.shake.proofs.Laws.{sized_shake}
 use Rattle.banquet.specs.declared.Shape.{Shape}
 use Rattle.banquet.specs.Shape.{first_challenge_length}
 use Rattle.banquet.specs.Sets.{scheme_of}

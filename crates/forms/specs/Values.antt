@@ -13,7 +13,8 @@ use Rattle.poly.specs.Field.{Ops, BinaryField, mul_assoc}
 use Rattle.poly.specs.Sum.{sum, sum_suc, sum_cong, sum_mul}
 use Rattle.poly.specs.Balance.{values_s, values_t, values_p}
 use Rattle.field.specs.Ring.{mul}
-use Rattle.lagrange.specs.Values.{interpolated, sum_interpolated}
+use Rattle.lagrange.specs.Values.{interpolated}
+use Rattle.lagrange.proofs.Laws.{sum_interpolated}
 use Rattle.tables.specs.Tables.{tabled_dot}
 use Rattle.banquet.specs.declared.Shape.{Shape}
 use Rattle.banquet.specs.Shape.{sbox_at}

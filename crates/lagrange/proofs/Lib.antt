@@ -1,2 +1,3 @@
 -- Laws for proofs of functions.
 pub mod Products
+pub mod Laws

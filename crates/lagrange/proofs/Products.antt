@@ -17,7 +17,8 @@ use Rattle.poly.specs.Lagrange.{number_points}
 use Rattle.poly.specs.Weights.{numerator, basis_by_weight}
 use Rattle.field.specs.Wide.{ops, Element}
 use Rattle.weights.specs.Weights.{Weights}
-use Rattle.lagrange.specs.Values.{upto, lagrange_value, value_basis}
+use Rattle.lagrange.specs.Values.{upto, lagrange_value}
+use Rattle.lagrange.proofs.Laws.{value_basis}
 
 module _ (w low x : ℕ) where
   infixl 70 ◌⊗◌

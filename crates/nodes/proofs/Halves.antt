@@ -10,7 +10,7 @@ use lib.ListN.{length, take, drop, length-drop}
 use lib.Seq.{length-take-le}
 use Rattle.slices.proofs.Put.{put_pair}
 use Rattle.shake.specs.Shake128.{shake128}
-use Rattle.shake.specs.Laws.{length_shake}
+use Rattle.shake.proofs.Laws.{length_shake}
 use Rattle.banquet.specs.Hash.{children}
 
 -- of a node v at depth d, where the tree has at most 128 leaves, and of the two nodes below it

@@ -7,7 +7,7 @@ use lib.ListN.{length, take, drop, replicate, length-append}
 use Rattle.slices.specs.Lists.{put, row}
 use Rattle.slices.proofs.Put.{put_last}
 use Rattle.slices.proofs.Rows.{row_cut}
-use Rattle.shake.specs.Laws.{length_shake}
+use Rattle.shake.proofs.Laws.{length_shake}
 use Rattle.party.specs.Party.{party_hash}
 
 -- ---- a buffer for a hash's input

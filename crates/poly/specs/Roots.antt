@@ -1,7 +1,7 @@
 -- A polynomial that isn't zero has fewer roots than coefficients. Assumes nothing.
 use Rattle.std.specs.Prelude.{◌≡◌, ◌≢◌, ◌⊎◌, length}
 use Rattle.std.proofs.Math.Path.{refl, ap, ap₂}
-use Rattle.std.proofs.Common.{sym, ◌∙◌, inl, inr, ⊎_elim, arith}
+use Rattle.std.proofs.Common.{sym, ◌∙◌, inl, inr, arith}
 use mathlib.Core.List.{List, [], ◌∷◌}
 use Prim.Native.Nat.{ℕ, zero, suc, ◌≤◌, ◌<◌}
 use Rattle.std.proofs.Math.Decide.{dec_lt}
@@ -120,20 +120,3 @@ module _ {A : Type 0} {O : Ops A} {Elem : A → Type 0} (F : BinaryField O Elem)
       go : Dec (n < length xs) → length xs ≤ n
       go (yes h) = absurd (nz (vanish xs p ep d r (omega arith)))
       go (no h) = omega arith
-
-  member_or_not : (Q : A → Type 0) (xs : List A) (x : A) → All Q xs → Q x ⊎ All (λ y. y ≢ x) xs
-  member_or_not Q [] x h = inr tt
-  member_or_not Q (y ∷ xs) x h = go (F.discrete y x) (member_or_not Q xs x h.1)
-    where
-      go : Dec (y ≡ x) → Q x ⊎ All (λ y. y ≢ x) xs → Q x ⊎ All (λ y. y ≢ x) (y ∷ xs)
-      go (yes e) r = inl (rw e at h.0)
-      go (no n) (inl q) = inl q
-      go (no n) (inr r) = inr (n, r)
-
-  -- Where n roots are known they are all: what holds of them holds of every root.
-  pub all_roots : (p : List A) (n : ℕ) → All Elem p → length p ≤ suc n → ¬ (IsZero O p) → (xs : List A) → Distinct xs
-      → All (Root O Elem p) xs → length xs ≡ n → (Q : A → Type 0) → All Q xs → (x : A) → Root O Elem p x → Q x
-  all_roots p n ep l nz xs d r k Q q x h = ⊎_elim (λ y. y) (λ m. absurd (more m)) (member_or_not Q xs x q)
-    where
-      more : All (λ y. y ≢ x) xs → ⊥
-      more m = let b = root_bound p n ep l nz (x ∷ xs) (m, d) (h, r) in omega arith

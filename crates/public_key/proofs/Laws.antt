@@ -10,8 +10,8 @@ use borrow.Author.Tests.{eqb-true, eq-eqb, ne_eqb}
 use Rattle.slices.specs.Lists.{put}
 use Rattle.slices.proofs.Put.{front, front_none, front_more}
 use Rattle.aes.specs.Aes.{aes, sbox_inputs, first_zero}
-use Rattle.aes.specs.Sizes.{length_sbox_inputs}
-use Rattle.aes.specs.Zero.{first_zero_le}
+use Rattle.aes.proofs.Sizes.{length_sbox_inputs}
+use Rattle.aes.proofs.Zero.{first_zero_le}
 use Rattle.banquet.specs.declared.Answer.{Answer}
 use Rattle.banquet.specs.declared.Answer.TheVariants.{Accepted, ZeroInput}
 use Rattle.banquet.specs.Sets.{base, base_scheme}

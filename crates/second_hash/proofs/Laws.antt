@@ -7,7 +7,7 @@ use lib.Dec.{lit<}
 use Rattle.slices.specs.Lists.{rows}
 use Rattle.slices.specs.Bytes.{Bytes, Sized, cons_bytes, append_bytes, rows_bytes}
 use Rattle.slices.specs.Layout.{field_bytes}
-use Rattle.shake.specs.Laws.{sized_shake}
+use Rattle.shake.proofs.Laws.{sized_shake}
 use Rattle.stream.specs.declared.Sponge.{Sponge}
 use Rattle.stream.specs.Stream.{empty, absorbed, finished, squeezed}
 use Rattle.stream.proofs.Stream.{absorbed_append, joined}

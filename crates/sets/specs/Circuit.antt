@@ -9,9 +9,9 @@ use Rattle.slices.specs.Sums.{zip_bytes}
 use Rattle.poly.specs.Index.{at_cases}
 use Rattle.field.specs.Byte.{inverse8}
 use Rattle.aes.specs.Aes.{key_expansion}
-use Rattle.aes.specs.Sizes.{length_sbox_inputs}
+use Rattle.aes.proofs.Sizes.{length_sbox_inputs}
 use Rattle.circuit.specs.Circuit.{Share, party}
-use Rattle.circuit.specs.Sizes.{length_output_share, length_even_mansour_output_share, output_share_bytes, even_mansour_output_share_bytes}
+use Rattle.circuit.proofs.Sizes.{length_output_share, length_even_mansour_output_share, output_share_bytes, even_mansour_output_share_bytes}
 use Rattle.banquet.specs.declared.Shape.{Shape}
 use Rattle.banquet.specs.Shape.{sboxes}
 use Rattle.banquet.specs.Scheme.{Circuit, true_inverses}

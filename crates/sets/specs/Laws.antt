@@ -6,7 +6,8 @@ use Rattle.std.proofs.Math.Decide.{ℕ_discrete}
 use Rattle.slices.specs.Lists.{choose}
 use Rattle.slices.specs.Bytes.{Sized}
 use Rattle.field.specs.WideField.{WideField}
-use Rattle.field.specs.Wide32.{powers32, wide32}
+use Rattle.field.specs.Wide32.{powers32}
+use Rattle.field.proofs.Wide32.{wide32}
 use Rattle.wide48.specs.Wide48.{powers48, wide48}
 use Rattle.banquet.specs.declared.Shape.{Shape}
 use Rattle.banquet.specs.Shape.{sboxes}

@@ -1,4 +1,3 @@
--- SHAKE128 (Shake128), what stands behind a message (Padding), and how many bytes it gives.
+-- SHAKE128 (Shake128), and what stands behind a message (Padding).
 pub mod Padding
 pub mod Shake128
-pub mod Laws

@@ -31,17 +31,10 @@ bits_zeros (suc z) =
     let more : 8 * suc z + 7 ≡ suc (suc (suc (suc (suc (suc (suc (suc (8 * z + 7)))))))) = omega arith in
     rw (more, ← bits_zeros z)
 
-bits_padding : (q : ℕ) → 0 < q → bits (padding q) ≡ 1 ∷ 1 ∷ 1 ∷ 1 ∷ 1 ∷ (replicate (8 * q - 6) 0 ++ (1 ∷ []))
+pub bits_padding : (q : ℕ) → 0 < q → bits (padding q) ≡ 1 ∷ 1 ∷ 1 ∷ 1 ∷ 1 ∷ (replicate (8 * q - 6) 0 ++ (1 ∷ []))
 unfolding bits padding
 bits_padding zero h = absurd (omega arith)
 bits_padding (suc zero) h = refl
 bits_padding (suc (suc z)) h =
     let more : 8 * suc (suc z) - 6 ≡ suc (suc (suc (8 * z + 7))) = omega arith in
     rw (more, ← bits_zeros z)
-
--- behind a message of n bytes
-pub padding_is_pad101 : (n : ℕ) → bits (padding (rate - n % rate)) ≡ 1 ∷ 1 ∷ 1 ∷ 1 ∷ pad101 (8 * rate) (8 * n + 4)
-unfolding pad101
-padding_is_pad101 n =
-    let j : (8 * rate - (8 * n + 4 + 2) % (8 * rate)) % (8 * rate) ≡ 8 * (rate - n % rate) - 6 = omega arith in
-    rw j (bits_padding (rate - n % rate) (omega arith))

@@ -5,7 +5,8 @@ use native.Mathlib.Nat.{mul-le-mul_right}
 use native.Mathlib.Omega.{arith}
 use Rattle.slices.specs.Xor.{by_digit}
 use Rattle.field.specs.Field.{zero_l}
-use Rattle.field.specs.Byte.{mul8, field8, times_one}
+use Rattle.field.specs.Byte.{mul8, field8}
+use Rattle.field.proofs.Byte.{times_one}
 
 module _ (one c : ℕ) (small : one < 2) (byte : c < 256) where
   pub public_fits : one * c < 256

@@ -8,7 +8,8 @@ use Rattle.slices.specs.Xor.{xor_assoc}
 use Rattle.field.specs.Linear.{combine, orbit}
 use Rattle.field.specs.Ring.{times, xtime, xtime_even, xtime_odd}
 use Rattle.field.specs.Field.{adds_l}
-use Rattle.field.specs.Byte.{mul8, field8, low8, times_one}
+use Rattle.field.specs.Byte.{mul8, field8, low8}
+use Rattle.field.proofs.Byte.{times_one}
 use Rattle.aes.specs.Aes.{cell, state, add, mixed, mix_columns}
 
 -- ---- 4.2.1: 02 a, by the bit d that leaves

@@ -15,7 +15,8 @@ use Rattle.poly.specs.Sum.{sum, sum_cong}
 use Rattle.field.specs.Linear.{combine, combine_map, combine_append, combine_low}
 use Rattle.field.specs.Ring.{mul}
 use Rattle.field.specs.Wide.{ops, Element}
-use Rattle.lagrange.specs.Values.{interpolated, lagrange_value, sum_interpolated}
+use Rattle.lagrange.specs.Values.{interpolated, lagrange_value}
+use Rattle.lagrange.proofs.Laws.{sum_interpolated}
 
 -- the two tables of eight numbers: the combinations of the first four, and of the last four
 unfoldable pub halves : List ℕ → List ℕ

@@ -4,7 +4,7 @@ use Rattle.std.proofs.Common.{sym, ◌∙◌, ap, subst, mod-lt, div-lt_iff_lt-m
 use Rattle.slices.specs.Lists.{sum_xor}
 use Rattle.field.specs.Byte.{mul8, field8}
 use Rattle.poly.specs.Balance.{AllOne}
-use Rattle.circuit.specs.Sound.{products_good}
+use Rattle.circuit.proofs.Sound.{products_good}
 use Rattle.banquet.specs.Shape.{sboxes, j_of, k_of, sbox_at, sbox_at_jk}
 use Rattle.banquet.specs.Scheme.{Scheme, GoodKey, wide_ops, wide_mul, lifted}
 use Rattle.banquet.specs.Execution.{Committed, output_share}

@@ -12,7 +12,7 @@ use Rattle.field.specs.Byte.{mul8, inverse8, field8}
 use Rattle.poly.specs.Sum.{sum}
 use Rattle.poly.specs.Balance.{AllOne}
 use Rattle.circuit.specs.Circuit.{share}
-use Rattle.circuit.specs.Sound.{map_inverted}
+use Rattle.circuit.proofs.Sound.{map_inverted}
 use Rattle.banquet.specs.Shape.{sboxes, sbox_at}
 use Rattle.banquet.specs.Scheme.{Scheme, GoodKey, true_inverses, wide_ops, lifted}
 use Rattle.banquet.specs.Execution.{Committed, tape_key, tape_inverses, output_share, input_at, inverse_at}

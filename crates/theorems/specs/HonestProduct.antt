@@ -16,7 +16,7 @@ use Rattle.poly.specs.Index.{at}
 use Rattle.poly.specs.Sum.{sum, sum_cong, sum_mul, sum_at, sum_choose, sum_each, elem_sum}
 use Rattle.poly.specs.Lagrange.{lagrange, eval_interpolate}
 use Rattle.poly.specs.Balance.{values_s, values_t, values_p, products, Values}
-use Rattle.poly.specs.ProductCheck.{values, product_complete}
+use Rattle.poly.proofs.ProductCheck.{values, product_complete}
 use Rattle.banquet.specs.Scheme.{Scheme, GoodKey, wide_ops, wide_mul, Wide}
 use Rattle.banquet.specs.Execution.{Committed, Challenge, challenge, tape_product, product_at, opened_c, opened_a, opened_b}
 use Rattle.banquet.specs.Signer.{

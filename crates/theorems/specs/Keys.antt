@@ -8,8 +8,8 @@ use borrow.Author.Tests.{eqb-true, eq-eqb}
 use Rattle.std.proofs.Math.ListN.{length-append}
 use Rattle.slices.specs.Bytes.{Bytes, Sized, take_bytes}
 use Rattle.slices.specs.Compare.{same_eq, same_refl}
-use Rattle.aes.specs.Zero.{first_zero_none, first_zero_length}
-use Rattle.circuit.specs.Sound.{map_inverted}
+use Rattle.aes.proofs.Zero.{first_zero_none, first_zero_length}
+use Rattle.circuit.proofs.Sound.{map_inverted}
 use Rattle.circuit.specs.Circuit.{share}
 use Rattle.banquet.specs.declared.Answer.{Answer}
 use Rattle.banquet.specs.declared.Answer.TheVariants.{Accepted}

@@ -3,12 +3,12 @@ use Rattle.std.specs.Prelude.{List, ℕ, suc, ◌*◌, ◌^◌, ◌<◌, ◌≤�
 use Rattle.std.proofs.Common.{arith, lit<, lit≤, length-drop}
 use Rattle.slices.specs.Bytes.{Sized, take_bytes, drop_bytes}
 use Rattle.field.specs.WideField.{WideField}
-use Rattle.field.specs.Wide32.{wide32}
+use Rattle.field.proofs.Wide32.{wide32}
 use Rattle.wide48.specs.Wide48.{wide48}
-use Rattle.shake.specs.Laws.{sized_shake}
-use Rattle.circuit.specs.Sound.{IsCircuit}
-use Rattle.circuit.specs.Agree.{aes_circuit_lem}
-use Rattle.circuit.specs.EvenMansour.{even_mansour_circuit_lem}
+use Rattle.shake.proofs.Laws.{sized_shake}
+use Rattle.circuit.proofs.Sound.{IsCircuit}
+use Rattle.circuit.proofs.Agree.{aes_circuit_lem}
+use Rattle.circuit.proofs.EvenMansour.{even_mansour_circuit_lem}
 use Rattle.banquet.specs.declared.Shape.{Shape}
 use Rattle.banquet.specs.Shape.{sboxes}
 use Rattle.banquet.specs.Scheme.{Circuit}

@@ -16,7 +16,8 @@ use Rattle.poly.specs.Index.{clash_or_merged, at_cases}
 use Rattle.poly.specs.Lagrange.{eval_interpolate}
 use Rattle.poly.specs.Sum.{sum}
 use Rattle.poly.specs.Balance.{AllOne, OneChallenge, FewRoots, values_s, values_t, values_p, check_poly}
-use Rattle.poly.specs.Parties.{Execution, execution_check, totals}
+use Rattle.poly.specs.Parties.{Execution, totals}
+use Rattle.poly.proofs.Parties.{execution_check}
 use Rattle.banquet.specs.Shape.{transcript_sizes, public_key_length}
 use Rattle.banquet.specs.Scheme.{Scheme, wide_ops, Wide}
 use Rattle.banquet.specs.Execution.{

@@ -8,7 +8,7 @@ use Rattle.slices.specs.Lists.{choose, row}
 use Rattle.slices.specs.Bytes.{Sized}
 use Rattle.slices.specs.Layout.{layout}
 use Rattle.shake.specs.Shake128.{shake128}
-use Rattle.shake.specs.Laws.{sized_shake}
+use Rattle.shake.proofs.Laws.{sized_shake}
 use Rattle.banquet.specs.Tree.{Node, node_seeds, seed_at, left, leaves, shown_leaves}
 use Rattle.theorems.specs.Seeds.{length_left, length_right, length_leaves, length_shown_leaves}
 

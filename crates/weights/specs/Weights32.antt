@@ -3,7 +3,8 @@ use Rattle.std.specs.Prelude.{List, [], ◌∷◌, ℕ}
 use Rattle.poly.specs.Index.{at}
 use Rattle.field.specs.Linear.{combine, orbit}
 use Rattle.field.specs.Ring.{xtime, times}
-use Rattle.field.specs.Wide32.{low32, wide32}
+use Rattle.field.specs.Wide32.{low32}
+use Rattle.field.proofs.Wide32.{wide32}
 use Rattle.weights.specs.Weights.{Weights, product, right, all, weighed}
 
 unfoldable pub weights32x21 : List ℕ

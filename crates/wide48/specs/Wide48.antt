@@ -5,7 +5,8 @@ use Rattle.field.specs.Ring.{xtime, times, mul}
 use Rattle.field.specs.Field.{iterate, ones_power, inverse}
 use Rattle.poly.specs.Poly.{eval}
 use Rattle.field.specs.Lift.{lift}
-use Rattle.field.specs.WideField.{WideField, wide_laws}
+use Rattle.field.specs.WideField.{WideField}
+use Rattle.field.proofs.WideField.{wide_laws}
 
 -- "modulo X^48 + X^5 + X^3 + X^2 + 1": the modulus without X^48
 abbrev pub low48 : ℕ

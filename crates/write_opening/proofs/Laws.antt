@@ -11,7 +11,7 @@ use Rattle.slices.specs.Tab.{row_fits, length_rows}
 use Rattle.slices.specs.Layout.{total, length_field}
 use Rattle.slices.specs.Numbers.{length_bytes_of}
 use Rattle.slices.proofs.Put.{Wrote, front, wrote_all, wrote_more}
-use Rattle.shake.specs.Laws.{length_shake}
+use Rattle.shake.proofs.Laws.{length_shake}
 use Rattle.banquet.specs.declared.Shape.{Shape}
 use Rattle.banquet.specs.Shape.{transcript_sizes}
 use Rattle.banquet.specs.Sets.{scheme_of}

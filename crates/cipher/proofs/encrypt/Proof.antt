@@ -25,7 +25,7 @@ use Rattle.aes.specs.Aes.{
   aes,
   sbox_inputs,
 }
-use Rattle.aes.specs.Sizes.{length_round_key, length_entering, length_aes}
+use Rattle.aes.proofs.Sizes.{length_round_key, length_entering, length_aes}
 use Rattle.blocks.proofs.Loops.{Running, running_none, running_more, running_inputs, key_block}
 use Rattle.cipher.proofs.encrypt.Statement.{statement}
 use Rattle.cipher.proofs.encrypt.Tie as tie

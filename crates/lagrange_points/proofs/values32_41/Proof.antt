@@ -1,6 +1,6 @@
 -- `lagrange_points::values32_41` meets its contract: its weights are right. Assumes nothing.
 use borrow.Author.Rules.{rules}
-use Rattle.field.specs.Wide32.{wide32}
+use Rattle.field.proofs.Wide32.{wide32}
 use Rattle.weights.specs.Weights32.{weights32x41, weights32x41_right}
 use Rattle.lagrange_points.proofs.values32_41.Statement.{statement}
 use Rattle.lagrange_points.proofs.values32_41.Tie as tie

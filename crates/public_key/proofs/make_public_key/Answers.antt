@@ -7,7 +7,7 @@ use Prim.Native.Nat.{ℕ}
 use lib.ListN.{length}
 use borrow.Enum.Refused.{opened}
 use borrow.Author.Tests.{eqb-true, leb-true}
-use Rattle.aes.specs.Sizes.{length_aes}
+use Rattle.aes.proofs.Sizes.{length_aes}
 use Rattle.banquet.specs.Answer.{Test}
 use Rattle.banquet.specs.Refusals.{test_at}
 use Rattle.verdict.specs.Tests.{passes}

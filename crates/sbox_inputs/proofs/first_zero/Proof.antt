@@ -6,7 +6,7 @@ use native.Mathlib.Omega.{arith}
 use lib.ListN.{length, drop}
 use borrow.Author.Rules.{rules}
 use Rattle.aes.specs.Aes.{first_zero}
-use Rattle.aes.specs.Zero.{first_zero_here, first_zero_later, first_zero_end}
+use Rattle.aes.proofs.Zero.{first_zero_here, first_zero_later, first_zero_end}
 use Rattle.sbox_inputs.proofs.first_zero.Statement.{statement}
 use Rattle.sbox_inputs.proofs.first_zero.Tie as tie
 

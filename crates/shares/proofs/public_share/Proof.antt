@@ -10,7 +10,7 @@ use Rattle.slices.specs.Bytes.{bytes_of}
 use Rattle.field.specs.Field.{zero_l}
 use Rattle.field.specs.Byte.{mul8, field8}
 use Rattle.circuit.specs.Circuit.{public}
-use Rattle.circuit.specs.Agree.{public_one}
+use Rattle.circuit.proofs.Agree.{public_one}
 use Rattle.shares.proofs.public_share.Statement.{statement}
 use Rattle.shares.proofs.public_share.Tie as tie
 

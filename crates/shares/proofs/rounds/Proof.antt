@@ -9,7 +9,7 @@ use borrow.Author.Rules.{rules}
 use Rattle.aes.specs.Aes.{add, word, block, shift_rows, mix_columns, rcon, next_key}
 use Rattle.blocks.proofs.Loops.{Running, running_none, running_more, running_inputs, key_block}
 use Rattle.circuit.specs.Circuit.{public, round_key_share, expansion_share, entering_share, cipher_share}
-use Rattle.circuit.specs.Sizes.{length_round_key_share, length_entering_share}
+use Rattle.circuit.proofs.Sizes.{length_round_key_share, length_entering_share}
 use Rattle.shares.proofs.rounds.Statement.{statement}
 use Rattle.shares.proofs.rounds.Tie as tie
 

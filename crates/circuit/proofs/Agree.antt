@@ -31,8 +31,8 @@ use Rattle.aes.specs.Aes.{
   key_inputs,
   sbox_inputs,
 }
-use Rattle.aes.specs.Sizes.{length_entering, rcon_bytes}
-use Rattle.field.specs.Byte.{times_one}
+use Rattle.aes.proofs.Sizes.{length_entering, rcon_bytes}
+use Rattle.field.proofs.Byte.{times_one}
 use Rattle.circuit.specs.Circuit.{
   share,
   public,
@@ -46,9 +46,9 @@ use Rattle.circuit.specs.Circuit.{
   output_share,
   Inverted,
 }
-use Rattle.circuit.specs.Sizes.{length_entering_share, length_input_shares, length_output_share, input_shares_bytes, output_share_bytes}
-use Rattle.circuit.specs.Linear.{input_shares_linear, output_share_linear}
-use Rattle.circuit.specs.Sound.{Same, IsCircuit}
+use Rattle.circuit.proofs.Sizes.{length_entering_share, length_input_shares, length_output_share, input_shares_bytes, output_share_bytes}
+use Rattle.circuit.proofs.Linear.{input_shares_linear, output_share_linear}
+use Rattle.circuit.proofs.Sound.{Same, IsCircuit}
 
 -- ---- constants and S-boxes, for the share 1
 

@@ -8,7 +8,7 @@ use Rattle.slices.specs.Lists.{rows}
 use Rattle.slices.specs.Tab.{get_d_rows, rows_cong}
 use Rattle.slices.specs.Bytes.{Bytes}
 use Rattle.aes.specs.Aes.{add, sbox, key_expansion, entering, aes, even_mansour, even_mansour_inputs}
-use Rattle.aes.specs.Sizes.{length_entering, length_key_expansion, key_expansion_bytes}
+use Rattle.aes.proofs.Sizes.{length_entering, length_key_expansion, key_expansion_bytes}
 use Rattle.circuit.specs.Circuit.{
   share,
   public,
@@ -19,16 +19,16 @@ use Rattle.circuit.specs.Circuit.{
   even_mansour_output_share,
   Inverted,
 }
-use Rattle.circuit.specs.Sizes.{
+use Rattle.circuit.proofs.Sizes.{
   length_entering_share,
   length_even_mansour_input_shares,
   length_even_mansour_output_share,
   even_mansour_input_shares_bytes,
   even_mansour_output_share_bytes,
 }
-use Rattle.circuit.specs.Linear.{even_mansour_input_shares_linear, even_mansour_output_share_linear}
-use Rattle.circuit.specs.Sound.{Same, IsCircuit}
-use Rattle.circuit.specs.Agree.{public_one, outputs_true, entering_agree, cipher_agree}
+use Rattle.circuit.proofs.Linear.{even_mansour_input_shares_linear, even_mansour_output_share_linear}
+use Rattle.circuit.proofs.Sound.{Same, IsCircuit}
+use Rattle.circuit.proofs.Agree.{public_one, outputs_true, entering_agree, cipher_agree}
 
 module _ (aes_key x : List ℕ) (ha : Bytes aes_key) (hx : Bytes x) (size : length x ≡ 16) where
   abbrev w : List ℕ

@@ -10,7 +10,7 @@ use Rattle.field.specs.Field.{inverse_unique, zero_l}
 use Rattle.field.specs.Byte.{mul8, inverse8, field8}
 use Rattle.aes.specs.Aes.{Good}
 use Rattle.circuit.specs.Circuit.{Share, share, party, Inverted, ProductsOne}
-use Rattle.circuit.specs.Linear.{Linear, parties_linear}
+use Rattle.circuit.proofs.Linear.{Linear, parties_linear}
 
 -- a circuit's inputs x and output r are the cipher's
 pub record Same (x x' r r' : List ℕ) : Type 0 where

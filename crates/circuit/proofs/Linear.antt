@@ -12,7 +12,7 @@ use Rattle.field.specs.Linear.{Additive, combined}
 use Rattle.field.specs.Field.{adds_l}
 use Rattle.field.specs.Byte.{mul8, field8}
 use Rattle.aes.specs.Aes.{add, matrix, state, word, block, shift_rows, mix_columns, add_round_key, rcon, next_word, key_inputs}
-use Rattle.aes.specs.Sizes.{length_next_word}
+use Rattle.aes.proofs.Sizes.{length_next_word}
 use Rattle.circuit.specs.Circuit.{
   Share,
   share,
@@ -31,7 +31,7 @@ use Rattle.circuit.specs.Circuit.{
   even_mansour_input_shares,
   even_mansour_output_share,
 }
-use Rattle.circuit.specs.Sizes.{length_round_key_share, length_entering_share}
+use Rattle.circuit.proofs.Sizes.{length_round_key_share, length_entering_share}
 
 -- a number, and a list of numbers, that depend on a share
 record Linear₁ (f : Share → ℕ) : Type 0 where

@@ -13,9 +13,9 @@ use Rattle.circuit.specs.Circuit.{
   Inverted,
   ProductsOne,
 }
-use Rattle.circuit.specs.Sound.{parties_good, good_parties}
-use Rattle.circuit.specs.Agree.{aes_circuit_lem}
-use Rattle.circuit.specs.EvenMansour.{even_mansour_circuit_lem}
+use Rattle.circuit.proofs.Sound.{parties_good, good_parties}
+use Rattle.circuit.proofs.Agree.{aes_circuit_lem}
+use Rattle.circuit.proofs.EvenMansour.{even_mansour_circuit_lem}
 
 module _ (n : ℕ) (keys inverses : ℕ → List ℕ) (hk : (i : ℕ) → i < suc n → Bytes (keys i)) where
   abbrev key : List ℕ

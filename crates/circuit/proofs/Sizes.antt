@@ -3,7 +3,7 @@ use Rattle.std.specs.Prelude.{◌≡◌, refl, List, get_or, length}
 use Prim.Native.Nat.{ℕ, zero, suc}
 use Rattle.slices.specs.Bytes.{Bytes, tab_bytes, append_bytes, rows_bytes, drop_bytes}
 use Rattle.aes.specs.Aes.{rcon, key_inputs}
-use Rattle.aes.specs.Sizes.{
+use Rattle.aes.proofs.Sizes.{
   product_lt,
   sum_lt,
   matrix_lt,

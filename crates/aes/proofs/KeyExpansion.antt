@@ -9,7 +9,7 @@ use native.Mathlib.Omega.{arith}
 use Rattle.std.proofs.Math.ListN.{get_or}
 use Rattle.slices.specs.Tab.{tab_cong, get_d_rows}
 use Rattle.aes.specs.Aes.{word, add, rcon, rot_word, sub_word, round_key, key_expansion}
-use Rattle.aes.specs.Sizes.{length_round_key}
+use Rattle.aes.proofs.Sizes.{length_round_key}
 
 module _ (key : List ℕ) where
   abbrev w : List ℕ
