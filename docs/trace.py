@@ -41,9 +41,9 @@ def exists(name):
     if '/' not in name:
         return True
     module, _, law = name.split('/', 1)[1].partition('.')
-    path = f'{folder}/specs/{module}.antt'
+    paths = [path for path in (f'{folder}/{part}/{module}.antt' for part in ('specs', 'proofs')) if os.path.exists(path)]
     declared = r'(?m)^\s*(unfoldable |abbrev )*(pub )?(record )?' + re.escape(law) + r'( :|\s*\(|\s*$)'
-    return os.path.exists(path) and (not law or re.search(declared, open(path).read()))
+    return any(not law or re.search(declared, open(path).read()) for path in paths)
 
 
 def quoted_from(quoted, text, covered, start):

@@ -1,4 +1,4 @@
--- Demand 3 written out, of any scheme with its figures. `Soundness` has the proof.
+-- Demand 3 written out, of any scheme with its figures. `proofs/Soundness` has the proof.
 use Rattle.std.specs.Prelude.{◌≡◌, ◌≢◌, ◌⊎◌, List, ℕ, ◌^◌, ◌≤◌, ◌<◌, length, take, drop}
 use Rattle.slices.specs.Bytes.{Bytes, Sized}
 use Rattle.poly.specs.Field.{Ops}

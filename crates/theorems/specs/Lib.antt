@@ -1,5 +1,6 @@
--- The theorems. Base is to be read first: all that is stated of document 01's set, with its figures. The statements are written out, of any scheme with
--- its figures, in Demand3, Complete, and banquet's OpeningChecks and SignatureChecks. What they ask of a scheme is in Laws, and Sets shows it of each set.
+-- The theorems. proofs/Base is to be read first: all that is stated of document 01's set, with its figures. The statements are written out, of any
+-- scheme with its figures, in Demand3, Complete, and banquet's OpeningChecks and SignatureChecks. What they ask of a scheme is in Laws, and Sets shows it
+-- of each set.
 pub mod Laws
 -- shares and keys
 pub mod Wide
@@ -9,7 +10,6 @@ pub mod Keys
 -- demand 3
 pub mod Demand3
 pub mod GoodGiven
-pub mod Soundness
 -- what is made with a good key is accepted
 pub mod Opened
 pub mod Honest
@@ -25,4 +25,3 @@ pub mod Complete
 pub mod EmptyCard
 -- the sets
 pub mod Sets
-pub mod Base

@@ -6,7 +6,7 @@ use native.Mathlib.Omega.{arith}
 use Rattle.slices.specs.Lists.{rows, row}
 use Rattle.slices.specs.Bytes.{Sized}
 use Rattle.slices.specs.Tab.{length_rows, row_of_rows}
-use Rattle.slices.specs.Numbers.{number, bytes_of, number_at, numbers, length_bytes_of, number_bytes_of, length_numbers, }
+use Rattle.slices.specs.Numbers.{number, bytes_of, number_at, numbers, length_bytes_of, number_bytes_of, length_numbers}
 use Rattle.slices.proofs.Numbers.{number_at_numbers_lt}
 use Rattle.slices.specs.Layout.{total, field, HasSizes, length_layout}
 use Rattle.slices.proofs.Layouts.{field_layout}

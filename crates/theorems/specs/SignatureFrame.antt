@@ -2,7 +2,7 @@
 use Rattle.std.specs.Prelude.{◌≡◌, List, [], ◌∷◌, ℕ, suc, ◌<◌, length, get_or}
 use Rattle.std.proofs.Common.{sym, ◌∙◌, ap, ap₂, mod-eq_of_lt}
 use Rattle.slices.specs.Bytes.{Bytes, Sized}
-use Rattle.slices.specs.Numbers.{number, bytes_of, number_at, numbers, length_bytes_of, bytes_of_bytes, number_bytes_of, length_numbers, numbers_bytes, }
+use Rattle.slices.specs.Numbers.{number, bytes_of, number_at, numbers, length_bytes_of, bytes_of_bytes, number_bytes_of, length_numbers, numbers_bytes}
 use Rattle.slices.proofs.Numbers.{number_at_numbers_lt}
 use Rattle.slices.specs.Layout.{total, HasSizes, length_layout, layout_bytes}
 use Rattle.slices.proofs.Layouts.{field_layout}

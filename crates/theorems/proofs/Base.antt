@@ -12,7 +12,7 @@ use Rattle.banquet.specs.OpeningChecks as openings
 use Rattle.banquet.specs.SignatureChecks as signatures
 use Rattle.theorems.specs.Sets.{base_laws}
 use Rattle.theorems.specs.Demand3.{Demand3}
-use Rattle.theorems.specs.Soundness as soundness
+use Rattle.theorems.proofs.Soundness as soundness
 use Rattle.theorems.specs.Complete as complete
 use Rattle.theorems.specs.EmptyCard as cards
 
