@@ -1,11 +1,10 @@
 -- A row's fields, and the end of the check case by case. Assumes nothing.
 use mathlib.Core.Path.{◌≡◌, sym, ap, ◌∙◌}
-use mathlib.Core.Bool.{Bool, true, false, not}
+use mathlib.Core.Bool.{Bool, true, false}
 use mathlib.Core.List.{List}
 use Prim.Native.Nat.{ℕ, ◌*◌, ◌^◌, ◌<◌, ◌≤◌}
 use native.Mathlib.Omega.{arith}
 use lib.ListN.{length, get_or, take}
-use borrow.Author.Tests.{not-true, not-false}
 use Rattle.slices.specs.Lists.{row, sum_xor, same}
 use Rattle.slices.specs.Layout.{total, field, length_field}
 use Rattle.banquet.specs.declared.Shape.{Shape}
@@ -51,15 +50,15 @@ module _ (S : Shape) (rows ciphertext : List ℕ) (e : ℕ) {sums : List ℕ} {l
   unfolding sums_answer field
   answered = rw (tested, summed)
 
-  pub outputs_miss : not test ≡ true → (ShareDiffers S.parties ≡ answer) × (sums ≡ all)
+  pub outputs_miss : test ≡ false → (ShareDiffers S.parties ≡ answer) × (sums ≡ all)
   unfolding require
-  outputs_miss h = (sym (answered ∙ simp (not-true test h)), summed)
+  outputs_miss h = (sym (answered ∙ simp h), summed)
 
   module _ {holds : Bool} (p : holds ≡ row_product_holds S sums) where
-    pub product_misses : not test ≡ false → not holds ≡ true → (ProductDiffers e ≡ answer) × (sums ≡ all)
+    pub product_misses : test ≡ true → holds ≡ false → (ProductDiffers e ≡ answer) × (sums ≡ all)
     unfolding require
-    product_misses h f = (sym (answered ∙ simp (not-false test h, ← p, not-true holds f)), summed)
+    product_misses h f = (sym (answered ∙ simp (h, ← p, f)), summed)
 
-    pub both_hold : not test ≡ false → not holds ≡ false → (Accepted ≡ answer) × (sums ≡ all)
+    pub both_hold : test ≡ true → holds ≡ true → (Accepted ≡ answer) × (sums ≡ all)
     unfolding require
-    both_hold h f = (sym (answered ∙ simp (not-false test h, ← p, not-false holds f)), summed)
+    both_hold h f = (sym (answered ∙ simp (h, ← p, f)), summed)
