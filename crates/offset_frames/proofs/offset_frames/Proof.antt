@@ -82,10 +82,10 @@ loop-again c =
     let i = x.before.before.before.before.before in
     let k = i in
     let g = k in
-    let a = (start g).args in
+    let a = (start g.before.before.before).args in
     let e = k.loop-e.e in
     let given = ap₂ (λ (f g : List ℕ). offset_frame a.shape a.us.now a.vs.now a.lasts.now f g)
-    (row_cut e (m g) a.firsts.now) (reworking_row k.loop-e.invariant.1 ∙ ap (λ z. row z e a.frames.now) (size g)) in
+    (row_cut e (m g.before.before.before) a.firsts.now) (reworking_row k.loop-e.invariant.1 ∙ ap (λ z. row z e a.frames.now) (size g.before.before.before)) in
     (omega arith, reworking_lent k.loop-e.invariant.1 (fits i) (x.offset_frame.ensures ∙ given) x.offset_frame.auto.frame)
 
 same_length : tie.Need-shape_of-frames invariant-loop decreases-loop
