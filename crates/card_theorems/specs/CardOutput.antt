@@ -1,21 +1,17 @@
 -- What the card program prints, of any scheme with its figures. Assumes nothing.
-use Rattle.std.specs.Prelude.{◌≡◌, refl, ◌⊎◌, true, false, List, [], ◌∷◌, ◌++◌, ℕ, suc, ◌*◌, ◌%◌, ◌<◌, ◌≤◌, length, take, replicate}
+use Rattle.std.specs.Prelude.{◌≡◌, ◌⊎◌, true, false, List, [], ◌∷◌, ◌++◌, ℕ, suc, ◌*◌, ◌%◌, ◌<◌, ◌≤◌, length, take, replicate}
 use Rattle.std.proofs.Math.Path.{ap, subst}
 use Rattle.std.proofs.Common.{◌∙◌, arith}
-use Rattle.std.proofs.lemmas.List.{length-replicate}
 use Rattle.slices.specs.Bytes.{Bytes, Sized}
 use Rattle.banquet.specs.declared.Answer.{Answer}
 use Rattle.banquet.specs.declared.Answer.TheVariants.{Accepted}
-use Rattle.banquet.specs.Shape.{message_limit, work_length, signature_length}
+use Rattle.banquet.specs.Shape.{message_limit, work_length}
 use Rattle.banquet.specs.Scheme.{Scheme}
 use Rattle.banquet.specs.Answer.{verdict_of}
 use Rattle.banquet.specs.Signature.{signature}
 use Rattle.banquet.specs.Calls.{sign, verify}
 use Rattle.banquet.specs.Card.{line_of, after_line, is_line, card_text, accepted_word, refusal_line, printed, card_output}
-use Rattle.theorems.specs.Laws.{Laws}
 use Rattle.banquet.specs.Figures.{Figures, figures_of}
-use Rattle.theorems.specs.Inputs as inputs
-use Rattle.theorems.specs.SignatureComplete as signs
 use Rattle.card_theorems.specs.Cards.{card_length, card_read, second_line, card_cut}
 
 -- the work slice that the program lends
@@ -50,7 +46,7 @@ SignedCardAccepted 𝓢 =
     → (sign 𝓢 key public_key message salt seeds output work).answer ≡ Accepted
     → card_output 𝓢 (card_text 𝓢 public_key message (signature 𝓢 key public_key message salt seeds)) ≡ accepted_word ++ (0x0a ∷ [])
 
--- ---- they hold
+-- ---- they hold (the last: proofs/CardOutput)
 
 module _ (𝓢 : Scheme) where
   pub output_cut : OutputCut 𝓢
@@ -70,15 +66,3 @@ module _ (𝓢 : Scheme) where
       subst (CardAccepted 𝓢) are
       (λ public_key message s p m short h acc.
       ap (λ (a : Answer). printed (verdict_of a)) (card_read 𝓢 public_key message s p m short h room ∙ acc))
-
-  pub signed_card_accepted : Laws 𝓢 → SignedCardAccepted 𝓢
-  signed_card_accepted L key public_key message salt seeds output work kb pb mb sb acc =
-      let i = inputs.sign_split 𝓢 L key public_key message salt seeds output work kb pb acc in
-      let s : Sized (signature_length 𝓢.shape) (signature 𝓢 key public_key message salt seeds) = record {
-        size = signs.signature_size 𝓢 L key public_key message salt seeds i;
-        bytes = signs.signature_bytes 𝓢 L key public_key message salt seeds i sb;
-      }
-      in
-      let enough : work_length ≤ length room = omega (arith, length-replicate {A = ℕ} work_length 0) in
-      card_accepted refl public_key message (signature 𝓢 key public_key message salt seeds) i.public_sized mb i.message_size s
-      (signs.signature_accepted 𝓢 L key public_key message salt seeds i room enough)

@@ -15,7 +15,7 @@ use Rattle.banquet.specs.Sets.{base, base_scheme}
 use Rattle.hex_digits.specs.Hex.{decoded_bytes}
 use Rattle.text_lines.specs.Form.{Broken, form_or_broken, form_split, form_length, form_most}
 use Rattle.text_lines.specs.Cut.{cut_answer}
-use Rattle.card_theorems.specs.BaseCards.{signed_card_accepted}
+use Rattle.card_theorems.proofs.BaseCards.{signed_card_accepted}
 use Rattle.requests.specs.Requests.{request_sizes, request_length, request_answer, request_output}
 
 pub line_bytes : (n : ℕ) (text : List ℕ) → Bytes (decoded_line n text)
