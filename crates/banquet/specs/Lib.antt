@@ -18,9 +18,7 @@ pub mod Card
 pub mod Extraction
 pub mod Sets
 pub mod Cases
--- Laws that ask for nothing: the slices lent by answer, refusals in order, and that a check accepts exactly where all that it checks holds.
+-- That a check accepts exactly where all that it checks holds, as statements: proofs/ shows them, with the laws that they rest on.
 pub mod Logic
-pub mod Lent
-pub mod Refusals
 pub mod OpeningChecks
 pub mod SignatureChecks

@@ -1,9 +1,7 @@
 -- The tree of seeds: "Root is node 0, party i is node 15+i", which is leaf i below the root.
-use Rattle.std.specs.Prelude.{◌≡◌, Bool, ltb, get_or, take, drop, replicate}
-use Rattle.std.proofs.Math.Path.{refl, sym, ap₂}
-use Rattle.std.proofs.Common.{◌∙◌}
-use Rattle.std.proofs.Math.Bool.{true, false}
-use mathlib.Core.List.{List, [], ◌∷◌, ◌++◌, map, map-append}
+use Rattle.std.specs.Prelude.{◌≡◌, ltb, get_or, take, drop, replicate}
+use Rattle.std.proofs.Math.Path.{refl}
+use mathlib.Core.List.{List, [], ◌∷◌, ◌++◌, map}
 use Prim.Native.Nat.{ℕ, zero, suc, ◌+◌, ◌-◌, ◌*◌, ◌^◌}
 use Rattle.slices.specs.Lists.{choose, tab, part}
 use Rattle.slices.specs.Layout.{layout}
@@ -55,33 +53,6 @@ module _ (hash : List ℕ → ℕ → List ℕ) (salt : List ℕ) (e : ℕ) wher
       (leaves d (2 * v + 1) (take 16 seeds) ++ shown_leaves d (2 * v + 2) (drop 16 seeds) (h - 2 ^ d))
 
   -- ---- laws: the leaves' numbers, whatever the seeds are
-
-  leaves_numbers : (d v : ℕ) (seed seed' : List ℕ) → node_numbers (leaves d v seed) ≡ node_numbers (leaves d v seed')
-  unfolding leaves
-  leaves_numbers zero v seed seed' = refl
-  leaves_numbers (suc d) v seed seed' =
-      map-append _ (leaves d (2 * v + 1) (left v seed)) _
-      ∙ ap₂ ◌++◌ (leaves_numbers d (2 * v + 1) (left v seed) (left v seed')) (leaves_numbers d (2 * v + 2) (right v seed) (right v seed'))
-      ∙ sym (map-append _ (leaves d (2 * v + 1) (left v seed')) _)
-
-  -- those shown are the same
-  pub shown_numbers : (d v : ℕ) (seeds : List ℕ) (h : ℕ) (seed : List ℕ) → node_numbers (shown_leaves d v seeds h) ≡ node_numbers (leaves d v seed)
-  unfolding shown_leaves leaves
-  shown_numbers zero v seeds h seed = refl
-  shown_numbers (suc d) v seeds h seed = go (ltb h (2 ^ d)) (shown_numbers d)
-    where
-      go : (t : Bool) → ((v : ℕ) (seeds : List ℕ) (h : ℕ) (seed : List ℕ) → node_numbers (shown_leaves d v seeds h) ≡ node_numbers (leaves d v seed))
-          → node_numbers (choose t (shown_leaves d (2 * v + 1) (drop 16 seeds) h ++ leaves d (2 * v + 2) (take 16 seeds))
-          (leaves d (2 * v + 1) (take 16 seeds) ++ shown_leaves d (2 * v + 2) (drop 16 seeds) (h - 2 ^ d)))
-          ≡ node_numbers (leaves d (2 * v + 1) (left v seed) ++ leaves d (2 * v + 2) (right v seed))
-      go true ih =
-          map-append _ (shown_leaves d (2 * v + 1) (drop 16 seeds) h) _
-          ∙ ap₂ ◌++◌ (ih (2 * v + 1) (drop 16 seeds) h (left v seed)) (leaves_numbers d (2 * v + 2) (take 16 seeds) (right v seed))
-          ∙ sym (map-append _ (leaves d (2 * v + 1) (left v seed)) _)
-      go false ih =
-          map-append _ (leaves d (2 * v + 1) (take 16 seeds)) _
-          ∙ ap₂ ◌++◌ (leaves_numbers d (2 * v + 1) (take 16 seeds) (left v seed)) (ih (2 * v + 2) (drop 16 seeds) (h - 2 ^ d) (right v seed))
-          ∙ sym (map-append _ (leaves d (2 * v + 1) (left v seed)) _)
 
   -- "party i is node 15+i"
   pub party_nodes : (root : List ℕ) → node_numbers (leaves 4 0 root) ≡ tab (λ i. 15 + i) 16

@@ -1,7 +1,6 @@
 // The types and limits that contracts and definitions share; specs/ defines the scheme.
 #![tactic(auto)]
 
-
 // "The message is over 32,768 bytes."
 pub const MESSAGE_LIMIT: usize = 32768;
 

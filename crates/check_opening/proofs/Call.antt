@@ -17,7 +17,7 @@ use Rattle.banquet.specs.Sets.{scheme_of}
 use Rattle.banquet.specs.Answer.{Test, in_order}
 use Rattle.banquet.specs.Opening.{transcript_of, hidden_of, siblings_of, check_opening}
 use Rattle.banquet.specs.Calls.{verify_opening_tests, checked, checked_after, verify_opening_answer, verify_opening, Checked}
-use Rattle.banquet.specs.Refusals.{test_at, passed_at}
+use Rattle.banquet.proofs.Refusals.{test_at, passed_at}
 use Rattle.verdict.specs.Refusal.{Refusal}
 use Rattle.verdict.specs.Tests.{checked_refused}
 

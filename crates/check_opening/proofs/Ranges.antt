@@ -14,7 +14,7 @@ use Rattle.banquet.specs.Sets.{scheme_of}
 use Rattle.banquet.specs.Answer.{Test, in_order, cleared}
 use Rattle.banquet.specs.Opening.{range_tests, execution_of, second_of, shown_seed, check_parties, check_opening}
 use Rattle.banquet.specs.Calls.{checked, checked_after}
-use Rattle.banquet.specs.Refusals.{passed_at}
+use Rattle.banquet.proofs.Refusals.{passed_at}
 use Rattle.verdict.specs.Refusal.{Refusal}
 use Rattle.verdict.specs.Tests.{checked_refused, passes}
 use Rattle.scratch.specs.Scratch.{Scratch}

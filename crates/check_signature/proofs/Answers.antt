@@ -12,7 +12,7 @@ use Rattle.banquet.specs.Sets.{scheme_of}
 use Rattle.banquet.specs.Answer.{Test, in_order, cleared}
 use Rattle.banquet.specs.Signature.{frame_of, frame_holds, check_signature}
 use Rattle.banquet.specs.Calls.{verify_tests, checked, checked_after, verify_answer, verify}
-use Rattle.banquet.specs.Refusals.{test_at, passed_at}
+use Rattle.banquet.proofs.Refusals.{test_at, passed_at}
 use Rattle.verdict.specs.Refusal.{Refusal}
 use Rattle.verdict.specs.Tests.{checked_refused}
 use Rattle.scratch.specs.Scratch.{Scratch}

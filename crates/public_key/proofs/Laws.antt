@@ -18,7 +18,7 @@ use Rattle.banquet.specs.Sets.{base, base_scheme}
 use Rattle.banquet.specs.Answer.{Test, require, in_order, output_after}
 use Rattle.banquet.specs.Key.{public_key_of, check_inputs}
 use Rattle.banquet.specs.Calls.{public_key_tests, written, written_after, public_key_answer, make_public_key}
-use Rattle.banquet.specs.Refusals.{test_at, passed_at}
+use Rattle.banquet.proofs.Refusals.{test_at, passed_at}
 use Rattle.verdict.specs.Refusal.{Refusal}
 use Rattle.verdict.specs.Tests.{written_refused}
 

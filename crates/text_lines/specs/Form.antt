@@ -7,7 +7,7 @@ use Rattle.slices.specs.Tests.{and_split}
 use Rattle.banquet.specs.declared.Answer.{Answer}
 use Rattle.banquet.specs.declared.Answer.TheVariants.{Accepted, TextForm}
 use Rattle.banquet.specs.Answer.{verdict_of, require, work_after, output_after}
-use Rattle.banquet.specs.Refusals.{require_split, require_join}
+use Rattle.banquet.proofs.Refusals.{require_split, require_join}
 use Rattle.banquet.specs.Card.{all_digits, decoded, line_of, after_line, is_ended, decoded_lines, has_size, is_line, check_lines}
 use Rattle.verdict.specs.Refusal.{Refusal, accepted_is_none}
 

@@ -10,6 +10,8 @@ use Rattle.banquet.specs.Card.{refused_word, card_output}
 use Rattle.banquet.specs.Sets.{base_scheme, base_figures, base_figures_lem}
 use Rattle.banquet.specs.OpeningChecks as openings
 use Rattle.banquet.specs.SignatureChecks as signatures
+use Rattle.banquet.proofs.OpeningChecks as opening_laws
+use Rattle.banquet.proofs.SignatureChecks as signature_laws
 use Rattle.theorems.specs.Sets.{base_laws}
 use Rattle.theorems.specs.Demand3.{Demand3}
 use Rattle.theorems.proofs.Soundness as soundness
@@ -40,19 +42,19 @@ demand_3 = soundness.demand_3 base_scheme base_laws base_figures_lem
 -- signature that was cut short or lengthened, are refused
 
 pub opening_checked_lem : openings.OpeningChecked base_scheme base_figures
-opening_checked_lem = openings.opening_checked_lem base_scheme base_figures_lem
+opening_checked_lem = opening_laws.opening_checked_lem base_scheme base_figures_lem
 
 pub signature_checked_lem : signatures.SignatureChecked base_scheme base_figures
-signature_checked_lem = signatures.signature_checked_lem base_scheme base_figures_lem
+signature_checked_lem = signature_laws.signature_checked_lem base_scheme base_figures_lem
 
 pub message_refused : signatures.MessageRefused base_scheme base_figures
-message_refused = signatures.message_refused base_scheme base_figures_lem
+message_refused = signature_laws.message_refused base_scheme base_figures_lem
 
 pub message_not_signed : signatures.MessageNotSigned base_scheme base_figures
-message_not_signed = signatures.message_not_signed base_scheme base_figures_lem
+message_not_signed = signature_laws.message_not_signed base_scheme base_figures_lem
 
 pub length_refused : signatures.LengthRefused base_scheme base_figures
-length_refused = signatures.length_refused base_scheme base_figures_lem
+length_refused = signature_laws.length_refused base_scheme base_figures_lem
 
 -- ---- keys, openings and signatures that are made
 

@@ -50,7 +50,8 @@ use Rattle.theorems.specs.Wide.{wide_field, wide_points, wide_number}
 use Rattle.theorems.specs.Shares.{IsTape, hashed_tape, tape_bytes, Fits, sized_given_key, total_inputs, total_inverses}
 use Rattle.theorems.specs.Keys.{sized_front}
 use Rattle.theorems.specs.GoodGiven.{key_good}
-use Rattle.banquet.specs.OpeningChecks.{PartyHolds, TranscriptHolds, OpeningHolds, opening_holds}
+use Rattle.banquet.specs.OpeningChecks.{PartyHolds, TranscriptHolds, OpeningHolds}
+use Rattle.banquet.proofs.OpeningChecks.{opening_holds}
 
 module _ (𝓢 : Scheme) (L : Laws 𝓢) where
   open 𝓢.shape use {parties, wide, m1, m2}

@@ -7,7 +7,7 @@ use Rattle.banquet.specs.Shape.{message_limit, work_length, public_key_length, o
 use Rattle.banquet.specs.Scheme.{Scheme, GoodKey}
 use Rattle.banquet.specs.Key.{front_of, ciphertext_of}
 use Rattle.banquet.specs.Calls.{make_public_key, sign, verify, open_execution, verify_opening}
-use Rattle.banquet.specs.Lent.{output_begins}
+use Rattle.banquet.proofs.Lent.{output_begins}
 use Rattle.theorems.specs.Laws.{Laws}
 use Rattle.banquet.specs.Figures.{Figures, figures_of}
 use Rattle.theorems.specs.Keys as keys

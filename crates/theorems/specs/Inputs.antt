@@ -20,7 +20,7 @@ use Rattle.banquet.specs.Answer.{Test, in_order}
 use Rattle.banquet.specs.Opening.{range_tests}
 use Rattle.banquet.specs.Calls.{open_tests, open_answer, sign_tests, sign_answer}
 use Rattle.theorems.specs.Laws.{Laws}
-use Rattle.banquet.specs.Refusals.{test_at, passed, all_pass}
+use Rattle.banquet.proofs.Refusals.{test_at, passed, all_pass}
 use Rattle.banquet.specs.Logic.{◌and◌}
 use Rattle.theorems.specs.Keys.{key_split, key_join}
 

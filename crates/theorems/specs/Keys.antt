@@ -18,7 +18,7 @@ use Rattle.banquet.specs.Scheme.{Scheme, GoodKey, true_inverses}
 use Rattle.banquet.specs.Key.{front_of, ciphertext_of, public_key_of, check_inputs, check_key}
 use Rattle.banquet.specs.Calls.{public_key_tests, public_key_answer}
 use Rattle.theorems.specs.Laws.{Laws}
-use Rattle.banquet.specs.Refusals.{require_split, require_join, all_pass}
+use Rattle.banquet.proofs.Refusals.{require_split, require_join, all_pass}
 
 module _ (𝓢 : Scheme) (L : Laws 𝓢) where
   -- the S-box inputs of a key are as many bytes as there are S-boxes

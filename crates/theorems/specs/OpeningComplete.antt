@@ -24,7 +24,8 @@ use Rattle.theorems.specs.Laws.{Laws}
 use Rattle.theorems.specs.Inputs.{OpenInput}
 use Rattle.theorems.specs.Keys.{sized_front}
 use Rattle.banquet.specs.Figures.{figures_of}
-use Rattle.banquet.specs.OpeningChecks.{PartyHolds, TranscriptHolds, holds_opening}
+use Rattle.banquet.specs.OpeningChecks.{PartyHolds, TranscriptHolds}
+use Rattle.banquet.proofs.OpeningChecks.{holds_opening}
 use Rattle.theorems.specs.Shares.{IsTape}
 use Rattle.theorems.specs.Seeds.{length_sibling_seeds, shown_siblings}
 use Rattle.theorems.specs.Honest.{honest_outputs}

@@ -39,7 +39,8 @@ use Rattle.theorems.specs.SignatureFrame as one
 use Rattle.theorems.specs.FrameRecomputed as recomputed
 use Rattle.theorems.specs.Inputs.{SignInput}
 use Rattle.banquet.specs.Figures.{figures_of}
-use Rattle.banquet.specs.SignatureChecks.{FramesHold, holds_signature}
+use Rattle.banquet.specs.SignatureChecks.{FramesHold}
+use Rattle.banquet.proofs.SignatureChecks.{holds_signature}
 use Rattle.theorems.specs.Recomputed.{first_hash_cong, second_hash_cong, third_hash_cong}
 
 module _ (𝓢 : Scheme) (L : Laws 𝓢) (key public_key message salt seeds : List ℕ) (input : SignInput 𝓢 key public_key message salt seeds) where

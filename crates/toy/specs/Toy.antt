@@ -32,7 +32,7 @@ use Rattle.banquet.specs.Opening.{transcript_of, hidden_of, siblings_of, check_o
 use Rattle.banquet.specs.Signature.{signature_salt, signature_h1, signature_h3, frame_of, check_signature}
 use Rattle.banquet.specs.Calls.{verify_tests, verify_answer, verify_opening_tests, verify_opening_answer}
 use Rattle.banquet.specs.Card.{verify_card_answer}
-use Rattle.banquet.specs.Refusals.{passed}
+use Rattle.banquet.proofs.Refusals.{passed}
 
 -- ---- the hash: a state that every byte of the input changes, and then bytes of the states that follow
 

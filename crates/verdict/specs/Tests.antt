@@ -6,8 +6,8 @@ use Rattle.banquet.specs.declared.Answer.{Answer}
 use Rattle.banquet.specs.declared.Answer.TheVariants.{Accepted}
 use Rattle.banquet.specs.Answer.{verdict_of, Test, in_order, clears}
 use Rattle.banquet.specs.Calls.{written, checked, made, written_after, checked_after, made_after}
-use Rattle.banquet.specs.Refusals.{test_at, leave, refused_by, refusals_leave, all_pass}
-use Rattle.banquet.specs.Lent.{written_untouched, checked_untouched, made_untouched}
+use Rattle.banquet.proofs.Refusals.{test_at, leave, refused_by, refusals_leave, all_pass}
+use Rattle.banquet.proofs.Lent.{written_untouched, checked_untouched, made_untouched}
 use Rattle.verdict.specs.Refusal.{Refusal, accepted_is_none}
 
 pub refuses : {a : Answer} → Refusal a → a ≢ Accepted

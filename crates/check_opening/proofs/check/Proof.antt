@@ -9,7 +9,7 @@ use borrow.Author.Tests.{eqb-true, leb-true}
 use borrow.Author.Rules.{rules}
 use Rattle.banquet.specs.Shape.{opening_length}
 use Rattle.banquet.specs.Answer.{Test}
-use Rattle.banquet.specs.Refusals.{test_at}
+use Rattle.banquet.proofs.Refusals.{test_at}
 use Rattle.verdict.specs.Tests.{passes}
 use Rattle.check_opening.proofs.Call.{tests, refused, parts_long, opening_checked_lem}
 use Rattle.check_opening.proofs.check.Statement.{statement}

@@ -10,7 +10,7 @@ use borrow.Author.Rules.{rules}
 use Rattle.slices.specs.Bytes.{bytes_of}
 use Rattle.banquet.specs.Shape.{work_length}
 use Rattle.banquet.specs.Answer.{Test}
-use Rattle.banquet.specs.Refusals.{test_at}
+use Rattle.banquet.proofs.Refusals.{test_at}
 use Rattle.verdict.specs.Tests.{passes}
 use Rattle.check_signature.proofs.Answers.{tests, refused, answered}
 use Rattle.check_signature.proofs.check.Statement.{statement}

@@ -13,7 +13,7 @@ use Rattle.banquet.specs.Key.{check_key}
 use Rattle.banquet.specs.Opening.{range_tests, opening}
 use Rattle.banquet.specs.Sets.{scheme_of}
 use Rattle.banquet.specs.Calls.{open_tests, made_after, open_answer}
-use Rattle.banquet.specs.Refusals.{test_at, passed_at}
+use Rattle.banquet.proofs.Refusals.{test_at, passed_at}
 use Rattle.verdict.specs.Tests.{made_refused, passes}
 use Rattle.open_execution.proofs.open_execution.Statement.{statement}
 use Rattle.open_execution.proofs.open_execution.Tie as tie

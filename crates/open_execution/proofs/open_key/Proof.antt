@@ -14,7 +14,7 @@ use Rattle.banquet.specs.Answer.{Test, in_order}
 use Rattle.banquet.specs.Key.{check_key}
 use Rattle.banquet.specs.Opening.{range_tests, opening}
 use Rattle.banquet.specs.Calls.{made_after}
-use Rattle.banquet.specs.Refusals.{test_at, passed_at}
+use Rattle.banquet.proofs.Refusals.{test_at, passed_at}
 use Rattle.verdict.specs.Tests.{made_refused, passes}
 use Rattle.sets.specs.Bounds.{sboxes_most}
 use Rattle.sets.specs.Room.{sboxes_lent}

@@ -9,7 +9,7 @@ use borrow.Enum.Refused.{opened}
 use borrow.Author.Tests.{eqb-true, leb-true}
 use Rattle.aes.proofs.Sizes.{length_aes}
 use Rattle.banquet.specs.Answer.{Test}
-use Rattle.banquet.specs.Refusals.{test_at}
+use Rattle.banquet.proofs.Refusals.{test_at}
 use Rattle.verdict.specs.Tests.{passes}
 use Rattle.public_key.proofs.Laws.{
   plaintext_room,

@@ -13,7 +13,7 @@ use Rattle.banquet.specs.Key.{check_key}
 use Rattle.banquet.specs.Signature.{signature}
 use Rattle.banquet.specs.Sets.{scheme_of}
 use Rattle.banquet.specs.Calls.{sign_tests, made_after, sign_answer}
-use Rattle.banquet.specs.Refusals.{test_at, passed_at}
+use Rattle.banquet.proofs.Refusals.{test_at, passed_at}
 use Rattle.verdict.specs.Tests.{made_refused, passes}
 use Rattle.sign_message.proofs.sign_message.Statement.{statement}
 use Rattle.sign_message.proofs.sign_message.Tie as tie
