@@ -15,14 +15,14 @@ use Rattle.commit.proofs.Laws.{two_pieces}
 use Rattle.commit.proofs.absorb_shares.Statement.{statement}
 use Rattle.commit.proofs.absorb_shares.Tie as tie
 
-module _ (c : tie.After-struct-known) where
+module _ (c : tie.After-struct_known-1) where
   abbrev start : tie.Start
   start = c.before.before.before.before
 
   few : start.args.shape.parties ≤ 128
-  few = start.pre.0.few
+  few = start.requires.0.few
 
-output-shares-requires : tie.Need-output-shares-requires
+output-shares-requires : tie.Need-output_shares-requires
 output-shares-requires c κs =
     let k = c.before.before.before.before in
     let p = (start k).requires in
@@ -38,15 +38,15 @@ output-shares-requires c κs =
 
 returns : tie.Need-returns
 returns c =
-    let a = c.before.before in
-    let o = a.before.before.before.before in
-    let b = start o.before.before.before.before.before in
+    let a = c in
+    let o = c.before.before.before.before.before.before.before.before.before.before in
+    let b = start o in
     let s = b.args in
-    let size : length s.offsets.now - 16 ≡ sboxes s.shape = omega (arith, b.pre.2) in
-    let made = o.output-shares.ensures ∙ ap (λ n. rows (λ i. output_share (scheme_of s.shape)
+    let size : length s.offsets.now - 16 ≡ sboxes s.shape = omega (arith, b.requires.2) in
+    let made = a.output_shares.ensures ∙ ap (λ n. rows (λ i. output_share (scheme_of s.shape)
     (committed s.front.now (take 16 s.offsets.now) (part 16 n s.offsets.now)) i (row (total (tape_sizes s.shape)) i s.tapes.now))
     s.shape.parties) size in
-    two_pieces s.s s.offsets.now made a.absorb.ensures c.absorb2.ensures
+    two_pieces s.s s.offsets.now made a.absorb-b.ensures c.absorb.ensures
 
 pub absorb_shares_spec : {M : Type 1} → statement M
 absorb_shares_spec =
@@ -58,10 +58,10 @@ absorb_shares_spec =
     (λ c. omega (arith, few c))
     (λ c. omega arith)
     (λ c. omega arith)
-    (λ c. omega (arith, (start c.before).pre.2))
+    (λ c. omega (arith, (start c.before).requires.2))
     (λ c. omega arith)
     (λ c. omega arith)
-    (λ c. omega (arith, (start c.before.before).pre.2))
+    (λ c. omega (arith, (start c.before.before).requires.2))
     output-shares-requires
     (λ c κs. tt)
     (λ c κs. tt)

@@ -19,71 +19,71 @@ use Rattle.commit.proofs.commit_frame.Tie as tie
 
 -- ---- earlier moments
 
-abbrev start-before-draw-parties-arg : tie.After-draw-parties-arg → tie.Start
+abbrev start-before-draw-parties-arg : tie.After-draw_parties-arg-1 → tie.Start
 start-before-draw-parties-arg c = c.before.before.before.before.before.before.before
 
-abbrev sum-rows-before-absorb-shares-arg : tie.After-absorb-shares-arg → tie.After-sum-rows
-sum-rows-before-absorb-shares-arg c = c.before.before.before.before.before.before.before.before.before
+abbrev sum-rows-before-absorb-shares : tie.After-slice_known-5-1 → tie.After-sum_rows
+sum-rows-before-absorb-shares c = c.before.before.before.before.before.before.before
 
-abbrev xor-into-before-slice-known6 : tie.After-slice-known6 → tie.After-xor-into
-xor-into-before-slice-known6 c = c.before.before.before.before.before.before.before
+abbrev xor-into-before-slice-known6 : tie.After-slice_known-6-1 → tie.After-xor_into
+xor-into-before-slice-known6 c = c.before.before.before.before.before
 
-abbrev draw-parties-before-slice-known6 : tie.After-slice-known6 → tie.After-draw-parties
-draw-parties-before-slice-known6 c = (sum-rows-before-absorb-shares-arg c.before.before.before).before.before.before.before.before.before.before
+abbrev draw-parties-before-slice-known6 : tie.After-slice_known-6-1 → tie.After-draw_parties-t
+draw-parties-before-slice-known6 c = (sum-rows-before-absorb-shares c.before.before.before).before.before.before.before.before.before
 
 -- ---- the tapes
 
-module _ (d : tie.After-draw-parties) where
+module _ (d : tie.After-draw_parties-t) where
   abbrev start : tie.Start
   start = d.before.before.before.before.before.before.before.before
 
-  tapes_long : length d.draw-parties.last.1.1.1.1.0 ≡ start.args.shape.parties * total (tape_sizes start.args.shape)
-  tapes_long = d.draw-parties.kept.1.1.1.1.0 ∙ start.pre.6
+  tapes_long : length d.draw_parties-t.new.tapes ≡ start.args.shape.parties * total (tape_sizes start.args.shape)
+  tapes_long = d.draw_parties-t.auto.tapes ∙ start.requires.6
 
-draw-parties-requires : tie.Need-draw-parties-requires
+draw-parties-requires : tie.Need-draw_parties-t-requires
 draw-parties-requires c κs =
     let p = (start-before-draw-parties-arg c).requires in
     (p.0, p.1, p.2, p.6)
 
 -- the length of a tape is known, and where the offsets begin
-module _ (m : tie.After-offset) where
-  abbrev sized : tie.After-tape-length
+module _ (m : tie.After-offset-k) where
+  abbrev sized : tie.After-tape_length-size
   sized = m.before
 
-  abbrev drawn : tie.After-draw-parties
+  abbrev drawn : tie.After-draw_parties-t
   drawn = sized.before.before.before
 
   abbrev entry : tie.Start
   entry = start drawn
 
   abbrev at : ℕ
-  at = m.offset.result
+  at = m.offset-k.result
 
   abbrev end : ℕ
-  end = at + sized.tape-length.result
+  end = at + sized.tape_length-size.result
 
   -- what the code has of the frame is there
   room : end ≤ length entry.args.frame.now
-  room = sum_room entry.pre.0 entry.args.frame.now entry.pre.5 m.offset.ensures.0 sized.tape-length.ensures.0
+  room = sum_room entry.requires.0 entry.args.frame.now entry.requires.5 m.offset-k.ensures.0 sized.tape_length-size.ensures.0
 
   -- the witness is no longer than a tape
-  within : length entry.args.witness.now ≤ sized.tape-length.result
-  within = omega (arith, entry.pre.4, sized.tape-length.ensures.0, tape_total entry.pre.0, all_sboxes entry.pre.0)
+  within : length entry.args.witness.now ≤ sized.tape_length-size.result
+  within = omega (arith, entry.requires.4, sized.tape_length-size.ensures.0, tape_total entry.requires.0, all_sboxes entry.requires.0)
 
-sum-rows-requires : tie.Need-sum-rows-requires
+sum-rows-requires : tie.Need-sum_rows-requires
 sum-rows-requires c κs =
-    let m = c.before.before in
+    let m = c.before in
     let s = entry m in (
-      s.pre.0.some,
+      s.requires.0.some,
       tapes_long (drawn m) ∙ ap (s.args.shape.parties *◌)
-          (sym (sum_long s.pre.0 s.args.frame.now s.pre.5 m.offset.ensures.0 (sized m).tape-length.ensures.0)),
+          (sym (sum_long s.requires.0 s.args.frame.now s.requires.5 m.offset-k.ensures.0 (sized m).tape_length-size.ensures.0)),
     )
 
 -- ---- their sum in the frame
 
-module _ (y : tie.After-sum-rows) where
-  abbrev measured : tie.After-offset
-  measured = y.before.before.before
+module _ (y : tie.After-sum_rows) where
+  abbrev measured : tie.After-offset-k
+  measured = y.before.before
 
   abbrev first : tie.Start
   first = entry measured
@@ -95,10 +95,10 @@ module _ (y : tie.After-sum-rows) where
   n = length first.args.witness.now
 
   abbrev summed : List ℕ
-  summed = put_mid o (end measured - o) first.args.frame.now y.sum_rows.last.1.1.0
+  summed = put_mid o (end measured - o) first.args.frame.now y.sum_rows.new.out
 
   summed_long : length summed ≡ length first.args.frame.now
-  summed_long = same_len_mid o (end measured - o) first.args.frame.now y.sum_rows.last.1.1.0 y.sum_rows.kept.1.1.0
+  summed_long = same_len_mid o (end measured - o) first.args.frame.now y.sum_rows.new.out y.sum_rows.auto.out
 
   summed_room : o + n ≤ length summed
   summed_room = omega (arith, summed_long, room measured, within measured)
@@ -106,17 +106,17 @@ module _ (y : tie.After-sum-rows) where
   lent_long : length (take (o + n - o) (drop o summed)) ≡ n
   lent_long = cut_long o (o + n) summed refl summed_room
 
-absorb-shares-requires : tie.Need-absorb-shares-requires
+absorb-shares-requires : tie.Need-absorb_shares-requires
 absorb-shares-requires c κs =
-    let y = sum-rows-before-absorb-shares-arg c in
-    let p = (first y).pre in
-    (p.0, p.3, c.before.before.before.before.xor-into.auto.0 ∙ lent_long y ∙ p.4, tapes_long (drawn (measured y)))
+    let y = sum-rows-before-absorb-shares c in
+    let p = (first y).requires in
+    (p.0, p.3, c.xor_into.auto.dst ∙ lent_long y ∙ p.4, tapes_long (drawn (measured y)))
 
-same_length : tie.Need-same-length
+same_length : tie.Need-shape_of-frame
 same_length c =
     let x = xor-into-before-slice-known6 c in
     let y = x.before.before.before.before.before in
-    same_len_mid (o y) (o y + n y - o y) (summed y) x.xor-into.last.0 x.xor-into.kept.0 ∙ summed_long y
+    same_len_mid (o y) (o y + n y - o y) (summed y) x.xor_into.new.dst x.xor_into.auto.dst ∙ summed_long y
 
 returns : tie.Need-returns
 returns c =
@@ -126,19 +126,19 @@ returns c =
     let d = drawn m in
     let s = first y in
     let a = s.args in
-    let v = s.pre.0 in
-    let z = (sized m).tape-length.ensures.0 in
-    let from = m.offset.ensures.0 in
-    let t = d.draw-parties.last.1.1.1.1.0 in
-    let own = own_made v a.witness.now a.salt.now a.root.now a.e s.pre.4 d.draw-parties.ensures.0 in (
-      offsets_made v a.frame.now s.pre.5 from z t a.witness.now s.pre.4 y.sum_rows.kept.1.1.0 y.sum_rows.ensures
-          x.xor-into.ensures
+    let v = s.requires.0 in
+    let z = (sized m).tape_length-size.ensures.0 in
+    let from = m.offset-k.ensures.0 in
+    let t = d.draw_parties-t.new.tapes in
+    let own = own_made v a.witness.now a.salt.now a.root.now a.e s.requires.4 d.draw_parties-t.ensures.0 in (
+      offsets_made v a.frame.now s.requires.5 from z t a.witness.now s.requires.4 y.sum_rows.auto.out y.sum_rows.ensures
+          x.xor_into.ensures
           ∙ ap (put a.frame.now (offsets_at a.shape)) own,
-      part_made v a.witness.now a.salt.now a.root.now a.e s.pre.4 d.draw-parties.ensures.0 a.front.now a.s
-          (offsets_are v a.frame.now s.pre.5 from z t a.witness.now s.pre.4 y.sum_rows.kept.1.1.0 y.sum_rows.ensures
-          x.xor-into.ensures
+      part_made v a.witness.now a.salt.now a.root.now a.e s.requires.4 d.draw_parties-t.ensures.0 a.front.now a.s
+          (offsets_are v a.frame.now s.requires.5 from z t a.witness.now s.requires.4 y.sum_rows.auto.out y.sum_rows.ensures
+          x.xor_into.ensures
           ∙ ap (take (witness_length a.shape)) own)
-          d.draw-parties.ensures.1 c.before.before.absorb-shares.ensures,
+          d.draw_parties-t.ensures.1 c.absorb_shares.ensures,
     )
 
 pub commit_frame_spec : {M : Type 1} → statement M
@@ -147,12 +147,12 @@ commit_frame_spec =
     (tie.spec
     draw-parties-requires
     (λ c κs. (start-before-draw-parties-arg c.before.before.before).requires.0)
-    (λ c κs. ((start c.before.before.before).pre.0, lit< tt))
-    (λ m. omega (arith, within m, (sized m).tape-length.ensures.1, m.offset.ensures.1))
-    (λ m. omega (arith, (sized m).tape-length.ensures.1, m.offset.ensures.1))
+    (λ c κs. ((start c.before.before.before).requires.0, lit< tt))
+    (λ m. omega (arith, within m, (sized m).tape_length-size.ensures.1, m.offset-k.ensures.1))
+    (λ m. omega (arith, (sized m).tape_length-size.ensures.1, m.offset-k.ensures.1))
     (λ c. omega arith)
     (λ c. omega arith)
-    (λ c. room c.before)
+    (λ c. room c)
     sum-rows-requires
     (λ c. omega arith)
     (λ c. omega arith)
@@ -160,5 +160,5 @@ commit_frame_spec =
     (λ c κs. lent_long c.before.before.before.before)
     absorb-shares-requires
     same_length
-    (λ c. (draw-parties-before-slice-known6 c).draw-parties.auto.1.1.1.1.0)
+    (λ c. (draw-parties-before-slice-known6 c).draw_parties-t.auto.tapes)
     returns)

@@ -14,45 +14,45 @@ use Rattle.commit.proofs.draw_parties.Tie as tie
 
 -- ---- earlier moments
 
-abbrev tape-length-before-hash-rows-arg2 : tie.After-hash-rows-arg2 → tie.After-tape-length
+abbrev tape-length-before-hash-rows-arg2 : tie.After-hash_rows-arg-2-1 → tie.After-tape_length-size
 tape-length-before-hash-rows-arg2 c = c.before.before.before.before.before.before.before.before
 
-module _ (g : tie.After-leaf-seeds) where
+module _ (g : tie.After-leaf_seeds-seeds) where
   abbrev start : tie.Start
   start = g.before.before.before.before
 
   few : start.args.shape.parties ≤ 128
-  few = start.pre.0.few
+  few = start.requires.0.few
 
-  seeded : start.args.shape.parties * 16 ≤ length g.leaf-seeds.result
+  seeded : start.args.shape.parties * 16 ≤ length g.leaf_seeds-seeds.result
   seeded =
-      seeds_room start.pre.0 start.args.salt.now start.args.root.now start.args.e start.pre.2 g.leaf-seeds.ensures
+      seeds_room start.requires.0 start.args.salt.now start.args.root.now start.args.e start.requires.2 g.leaf_seeds-seeds.ensures
 
-hash-rows-requires : tie.Need-hash-rows-requires
+hash-rows-requires : tie.Need-hash_rows-requires
 hash-rows-requires c κs =
     let g = c.before.before.before.before.before in
     let z : List ℕ = replicate 4096 0 in
     ((start g).requires.1, omega (arith, few g), seeded g, front_long ((start g).args.shape.parties * 32) z (omega (arith, few g)))
 
-hash-rows-requires-2 : tie.Need-hash-rows-requires-2
+hash-rows-requires-2 : tie.Need-hash_rows-requires-2
 hash-rows-requires-2 c κs =
     let z = tape-length-before-hash-rows-arg2 c in
     let g = z.before.before in
-    let p = (start g).pre in
-    (p.1, omega (arith, few g), seeded g, p.3 ∙ ap ((start g).args.shape.parties *◌) (sym z.tape-length.ensures.0))
+    let p = (start g).requires in
+    (p.1, omega (arith, few g), seeded g, p.3 ∙ ap ((start g).args.shape.parties *◌) (sym z.tape_length-size.ensures.0))
 
 returns : tie.Need-returns
 returns c =
-    let t = c.before.before.before.before.before in
-    let h = t.before.before.before.before.before in
-    let z = h.before.before.before.before in
-    let g = z.before.before in
+    let t = c in
+    let h = t in
+    let z = h in
+    let g = z.before.before.before.before.before.before.before.before.before.before.before.before.before.before.before in
     let s = start g in
     let a = s.args in
-    let w = g.leaf-seeds.ensures in (
-      tapes_drawn s.pre.0 a.salt.now a.root.now a.e s.pre.2 w z.tape-length.ensures.0 t.hash-rows2.ensures,
-      c.before.absorb.ensures
-          ∙ ap (absorbed a.s) (commitments_drawn s.pre.0 a.salt.now a.root.now a.e s.pre.2 w h.hash-rows.ensures),
+    let w = g.leaf_seeds-seeds.ensures in (
+      tapes_drawn s.requires.0 a.salt.now a.root.now a.e s.requires.2 w z.tape_length-size.ensures.0 t.hash_rows-2.ensures,
+      c.absorb.ensures
+          ∙ ap (absorbed a.s) (commitments_drawn s.requires.0 a.salt.now a.root.now a.e s.requires.2 w h.hash_rows.ensures),
     )
 
 pub draw_parties_spec : {M : Type 1} → statement M
@@ -60,4 +60,4 @@ draw_parties_spec =
     tie.close
     (tie.spec (λ c κs. search rules) (λ c. omega (arith, few c.before)) (λ c κs. search rules) (λ c. search rules) (λ c. search rules)
     (λ c. omega (arith, few c.before.before)) (λ c. search rules) hash-rows-requires (λ c. search rules) hash-rows-requires-2
-    (λ c κs. search rules) (λ c. c.before.before.before.before.before.hash-rows2.auto.1.1.1.1.1.1.0) returns)
+    (λ c κs. search rules) (λ c. c.hash_rows-2.auto.out) returns)
