@@ -8,31 +8,31 @@ use Rattle.share_check.proofs.check_rows.Tie as tie
 
 -- ---- earlier moments
 
-abbrev fill-rows-before-compare-rows : tie.After-compare-rows → tie.After-fill-rows
-fill-rows-before-compare-rows c = c.before.before.before.before.before.before.before
+abbrev fill-rows-before-compare-rows : tie.After-compare_rows → tie.After-fill_rows
+fill-rows-before-compare-rows c = c.before.before.before.before.before.before
 
-abbrev start : tie.After-fill-rows → tie.Start
+abbrev start : tie.After-fill_rows → tie.Start
 start f = f.before.before.before.before.before.before
 
-compare-rows-requires : tie.Need-compare-rows-requires
+compare-rows-requires : tie.Need-compare_rows-requires
 compare-rows-requires c κs =
-    let f = c.before.before.before.before.before.before in
+    let f = c.before.before.before.before.before in
     let s = start f in
-    let long = read_lengths s.pre.0 s.args.seeds.now f.fill-rows.new.1.1.1.1.1.1.0 f.fill-rows.ensures in
-    (s.pre.0.valid, long.0, long.1)
+    let long = read_lengths s.requires.0 s.args.seeds.now f.fill_rows.new.rows f.fill_rows.ensures in
+    (s.requires.0.valid, long.0, long.1)
 
 returns : tie.Need-returns
 returns c =
     let f = fill-rows-before-compare-rows c in
     let s = start f in (
-      halves_checked s.pre.0 s.args.seeds.now f.fill-rows.last.1.1.1.1.1.1.0 f.fill-rows.ensures s.args.hidden
-          c.before.before.before.before.ciphertext.ensures c.compare-rows.ensures,
-      f.fill-rows.ensures,
+      halves_checked s.requires.0 s.args.seeds.now f.fill_rows.new.rows f.fill_rows.ensures s.args.hidden
+          c.ciphertext.ensures c.compare_rows.ensures,
+      f.fill_rows.ensures,
     )
 
 pub check_rows_spec : {M : Type 1} → statement M
 check_rows_spec =
     tie.close
-    (tie.spec (λ c κs. c.before.before.before.before.before.requires) (λ c κs. (start c.before.before).pre.0.key.size)
+    (tie.spec (λ c κs. c.requires) (λ c κs. (start c.before.before).requires.0.key.size)
     (λ c. half_most _) (λ c. half_most _)
     (λ c. search rules) (λ c. zero-le) (λ c. zero-le) (λ c. half_most _) compare-rows-requires (λ c. search rules) returns)

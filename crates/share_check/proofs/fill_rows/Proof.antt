@@ -18,26 +18,26 @@ use Rattle.share_check.proofs.fill_rows.Tie as tie
 
 -- ---- earlier moments
 
-abbrev rows-before-field5 : tie.After-field5 → tie.After-rows
+abbrev rows-before-field5 : tie.After-field-5 → tie.After-rows
 rows-before-field5 c = c.before.before.before.before.before.before.before.before
 
-abbrev field-before-share-rows : tie.After-share-rows → tie.After-field
+abbrev field-before-share-rows : tie.After-share_rows → tie.After-field
 field-before-share-rows c = c.before.before.before.before.before.before.before
 
 abbrev start-before-field : tie.After-field → tie.Start
 start-before-field c = c.before.before.before.before.before.before.before.before.before.before.before
 
-abbrev transcript-sizes-before-front : tie.After-front → tie.After-transcript-sizes
+abbrev transcript-sizes-before-front : tie.After-front → tie.After-transcript_sizes
 transcript-sizes-before-front c = c.before.before.before.before.before.before.before
 
 -- ---- where the sizes are known
 
-module _ (z : tie.After-transcript-sizes) where
+module _ (z : tie.After-transcript_sizes) where
   abbrev start : tie.Start
   start = z.before.before.before.before.before
 
   abbrev sizes : List ℕ
-  sizes = z.transcript-sizes.result
+  sizes = z.transcript_sizes.result
 
   -- how long each half is
   abbrev n : ℕ
@@ -45,10 +45,10 @@ module _ (z : tie.After-transcript-sizes) where
 
   -- field k can be taken, and has its size
   asked : (k : ℕ) → k < 12 → (k < length sizes) × (total sizes ≤ length start.args.transcript.now) × (total sizes < 2 ^ 63)
-  asked = transcript_fits start.pre.0.valid start.args.transcript.now z.transcript-sizes.ensures start.pre.0.stated.size
+  asked = transcript_fits start.requires.0.valid start.args.transcript.now z.transcript_sizes.ensures start.requires.0.stated.size
 
   size : (k : ℕ) {f : List ℕ} → f ≡ field sizes k start.args.transcript.now → length f ≡ get_or (transcript_sizes start.args.shape) k 0
-  size k = field_size start.args.shape start.args.transcript.now k z.transcript-sizes.ensures start.pre.0.stated.size
+  size k = field_size start.args.shape start.args.transcript.now k z.transcript_sizes.ensures start.requires.0.stated.size
 
 rows-requires : tie.Need-rows-requires
 rows-requires c κs =
@@ -59,41 +59,41 @@ rows-requires c κs =
 -- ---- where the stated rows are written
 
 module _ (r : tie.After-rows) where
-  abbrev z1 : tie.After-transcript-sizes
+  abbrev z1 : tie.After-transcript_sizes
   z1 = r.before.before.before
 
   abbrev w : List ℕ
   w = (start z1).args.rows.now
 
   abbrev written : List ℕ
-  written = put_mid 0 (length w / 2 - 0) w r.rows.last.1.1.0
+  written = put_mid 0 (length w / 2 - 0) w r.rows.new.out
 
   written_long : length written ≡ length w
-  written_long = same_len_mid 0 (length w / 2 - 0) w r.rows.last.1.1.0 r.rows.kept.1.1.0
+  written_long = same_len_mid 0 (length w / 2 - 0) w r.rows.new.out r.rows.auto.out
 
-share-rows-requires : tie.Need-share-rows-requires
+share-rows-requires : tie.Need-share_rows-requires
 share-rows-requires c κs =
     let r = (rows-before-field5 c.before) in
     let z = z1 r in
-    let p = (start z).pre in (
+    let p = (start z).requires in (
       p.0.valid,
-      size z 0 c.before.before.before.before.before.before.field.ensures,
+      size z 0 c.field.ensures,
       p.1,
-      front_long (start z).args.shape (start z).args.public.now p.0.key.size c.before.before.before.before.before.front.ensures,
-      size z 4 c.before.before.before.before.field2.ensures,
-      size z 5 c.before.before.before.field3.ensures,
-      size z 6 c.before.before.field4.ensures,
-      size z 7 c.before.field5.ensures,
+      front_long (start z).args.shape (start z).args.public.now p.0.key.size c.front.ensures,
+      size z 4 c.field-2.ensures,
+      size z 5 c.field-3.ensures,
+      size z 6 c.field-4.ensures,
+      size z 7 c.field-5.ensures,
       second_fits p.0,
       second_lent (w r) (n z) p.2 (written r) (written_long r),
     )
 
-same_length : tie.Need-same-length
+same_length : tie.Need-shape_of-rows
 same_length c =
-    let x = c.before.before in
-    let r = (rows-before-field5 x.before.before) in
-    same_len_mid (length (w r) / 2) (length (w r) - length (w r) / 2) (written r) x.share-rows.new.1.1.1.1.1.1.1.1.1.1.0
-    x.share-rows.auto.1.1.1.1.1.1.1.1.1.1.0 ∙ written_long r
+    let x = c in
+    let r = (rows-before-field5 x.before.before.before.before) in
+    same_len_mid (length (w r) / 2) (length (w r) - length (w r) / 2) (written r) x.share_rows.new.out
+    x.share_rows.auto.out ∙ written_long r
 
 returns : tie.Need-returns
 returns c =
@@ -101,20 +101,20 @@ returns c =
     let r = (rows-before-field5 x.before.before) in
     let z = z1 r in
     let s = start z in
-    halves_put (w r) (n z) s.pre.2 r.rows.ensures (stated_length s.pre.0 s.args.seeds.now)
-    (made_right s.pre.0 s.args.seeds.now z.transcript-sizes.ensures (field-before-share-rows x).field.ensures
-    x.before.before.before.before.before.before.front.ensures
-    x.before.before.before.before.before.field2.ensures
-    x.before.before.before.before.field3.ensures x.before.before.before.field4.ensures x.before.before.field5.ensures
-    x.share-rows.ensures)
+    halves_put (w r) (n z) s.requires.2 r.rows.ensures (stated_length s.requires.0 s.args.seeds.now)
+    (made_right s.requires.0 s.args.seeds.now z.transcript_sizes.ensures (field-before-share-rows x).field.ensures
+    x.front.ensures
+    x.field-2.ensures
+    x.field-3.ensures x.field-4.ensures x.field-5.ensures
+    x.share_rows.ensures)
 
 pub fill_rows_spec : {M : Type 1} → statement M
 fill_rows_spec =
     tie.close
-    (tie.spec (λ c κs. c.before.before.before.before.requires.0.valid) (λ c. sym (ap length c.before.transcript-sizes.ensures))
+    (tie.spec (λ c κs. c.requires.0.valid) (λ c. sym (ap length c.transcript_sizes.ensures))
     (λ c. zero-le) (λ c. zero-le) (λ c. half_most _)
     rows-requires (λ c κs. asked c.before.before.before.before.before 0 (omega arith))
-    (λ c κs. (start-before-field c).pre.0.key.size)
+    (λ c κs. (start-before-field c).requires.0.key.size)
     (λ c κs. asked (transcript-sizes-before-front c) 4 (omega arith))
     (λ c κs. asked (transcript-sizes-before-front c.before) 5 (omega arith))
     (λ c κs. asked (transcript-sizes-before-front c.before.before) 6 (omega arith))
