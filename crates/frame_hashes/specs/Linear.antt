@@ -1,5 +1,5 @@
 -- A sum of lists, one of which may be missing, in its fields and numbers. Assumes nothing.
-use Rattle.std.specs.Prelude.{◌≡◌, refl, Bool, true, false, ℕ, ◌+◌, ◌*◌, ◌^◌, ◌<◌, ◌≤◌, eqb, length, take, drop}
+use Rattle.std.specs.Prelude.{◌≡◌, refl, Bool, true, false, ℕ, ◌*◌, ◌^◌, ◌<◌, ◌≤◌, eqb, length, take, drop}
 use Rattle.std.proofs.Math.Path.{sym, ap}
 use Rattle.std.proofs.Common.{ap₂, ◌∙◌, arith, take-append-drop, length-drop, take_all}
 use mathlib.Core.List.{List, [], ◌∷◌, ◌++◌}
@@ -9,7 +9,7 @@ use Rattle.slices.specs.Lists.{choose, tab, row, zip_xor, sum_xor}
 use Rattle.slices.specs.Tab.{rows_cong, rows_of}
 use Rattle.slices.specs.Bytes.{Bytes, Sized, nil_bytes}
 use Rattle.slices.specs.Sums.{sum_xor_cong, sum_bytes, zip_bytes, length_zip_sum}
-use Rattle.slices.specs.Numbers.{number, number_at, numbers, bytes_of, length_bytes_of, bytes_of_bytes, number_bytes_of, bytes_of_number, length_numbers, numbers_bytes, }
+use Rattle.slices.specs.Numbers.{number, number_at, numbers, bytes_of, length_bytes_of, bytes_of_bytes, number_bytes_of, bytes_of_number, length_numbers, numbers_bytes}
 use Rattle.slices.proofs.Numbers.{number_at_numbers_lt}
 use Rattle.slices.specs.Layout.{total, field, layout, field_nil}
 use Rattle.poly.specs.Index.{at, at_cases}

@@ -13,35 +13,35 @@ use Rattle.frame_hashes.proofs.absorb_frame.Tie as tie
 
 -- ---- earlier moments
 
-abbrev frame-rows-before-absorb-first : tie.After-absorb-first → tie.After-frame-rows
-frame-rows-before-absorb-first c = c.before.before.before.before.before.before.before
+abbrev frame-rows-before-absorb-first : tie.After-absorb_first → tie.After-frame_rows
+frame-rows-before-absorb-first c = c.before.before.before.before.before.before
 
-abbrev frame-rows-before-absorb-third : tie.After-absorb-third → tie.After-frame-rows
+abbrev frame-rows-before-absorb-third : tie.After-absorb_third → tie.After-frame_rows
 frame-rows-before-absorb-third c = c.before.before.before.before.before.before.before.before
 
-module _ (f : tie.After-frame-rows) where
+module _ (f : tie.After-frame_rows) where
   abbrev s : tie.Start
   s = f.before.before.before.before.before.before.before.before.before
 
-  rows_long : length f.frame-rows.last.1.1.1.1.1.1.1.1.1.0 ≡ s.args.shape.parties * total (row_sizes s.args.shape)
-  rows_long = f.frame-rows.kept.1.1.1.1.1.1.1.1.1.0 ∙ s.pre.2
+  rows_long : length f.frame_rows.new.rows ≡ s.args.shape.parties * total (row_sizes s.args.shape)
+  rows_long = f.frame_rows.auto.rows ∙ s.requires.2
 
-absorb-first-requires : tie.Need-absorb-first-requires
-absorb-first-requires c κs = let f = c.before.before.before.before.before.before in ((s f).requires.0.valid, (s f).requires.0.frame_sized.size, rows_long f)
+absorb-first-requires : tie.Need-absorb_first-requires
+absorb-first-requires c κs = let f = c.before.before.before.before.before in ((s f).requires.0.valid, (s f).requires.0.frame_sized.size, rows_long f)
 
-absorb-third-requires : tie.Need-absorb-third-requires
-absorb-third-requires c κs = let f = frame-rows-before-absorb-first c in ((s f).pre.0.valid, (s f).pre.0.frame_sized.size, rows_long f)
+absorb-third-requires : tie.Need-absorb_third-requires
+absorb-third-requires c κs = let f = frame-rows-before-absorb-first c.before in ((s f).requires.0.valid, (s f).requires.0.frame_sized.size, rows_long f)
 
 returns : tie.Need-returns
 returns c =
     let f = frame-rows-before-absorb-third c in
     let a = (s f).args in
-    let g = (s f).pre.0 in
+    let g = (s f).requires.0 in
     let seed = seed_shown a.shape a.salt.now a.e a.hidden a.frame.now in
-    let made = f.frame-rows.ensures in (
-      c.before.absorb-first.ensures ∙ ap (absorbed a.hashes.first) (first_bound g a.e seed made.0 made.1),
+    let made = f.frame_rows.ensures in (
+      c.absorb_first.ensures ∙ ap (absorbed a.hashes.first) (first_bound g a.e seed made.0 made.1),
       (
-        c.absorb-third.ensures ∙ ap (absorbed a.hashes.third) (third_bound g a.e seed made.0 made.1),
+        c.absorb_third.ensures ∙ ap (absorbed a.hashes.third) (third_bound g a.e seed made.0 made.1),
         (made.0, made.1),
       ),
     )
@@ -50,5 +50,5 @@ pub absorb_frame_spec : {M : Type 1} → statement M
 absorb_frame_spec =
     tie.close
     (tie.spec (λ c κs. search rules) absorb-first-requires absorb-third-requires
-    (λ c. (frame-rows-before-absorb-third c).frame-rows.auto.1.1.1.1.1.1.1.1.0)
-    (λ c. (frame-rows-before-absorb-third c).frame-rows.auto.1.1.1.1.1.1.1.1.1.0) returns)
+    (λ c. (frame-rows-before-absorb-third c).frame_rows.auto.commitments)
+    (λ c. (frame-rows-before-absorb-third c).frame_rows.auto.rows) returns)

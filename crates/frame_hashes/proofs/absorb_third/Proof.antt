@@ -14,31 +14,31 @@ use Rattle.frame_hashes.proofs.absorb_third.Tie as tie
 rest_le : (a b : ℕ) → a - b ≤ a
 rest_le a b = omega arith
 
-module _ (r : tie.After-row-length) where
+module _ (r : tie.After-row_length-len) where
   abbrev start : tie.Start
   start = r.before.before.before
 
-  least : 16 ≤ r.row-length.result
-  least = omega (arith, r.row-length.ensures.0)
+  least : 16 ≤ r.row_length-len.result
+  least = omega (arith, r.row_length-len.ensures.0)
 
-  within : r.row-length.result - 16 ≤ length start.args.frame.now
-  within = omega (arith, start.pre.1, r.row-length.ensures.0)
+  within : r.row_length-len.result - 16 ≤ length start.args.frame.now
+  within = omega (arith, start.requires.1, r.row_length-len.ensures.0)
 
-absorb-column-requires : tie.Need-absorb-column-requires
+absorb-column-requires : tie.Need-absorb_column-requires
 absorb-column-requires c κs =
     let r = c.before.before in
-    ((start r).requires.2 ∙ ap (λ (m : ℕ). (start r).args.shape.parties * m) (sym r.row-length.ensures.0), omega (arith, least r))
+    ((start r).requires.2 ∙ ap (λ (m : ℕ). (start r).args.shape.parties * m) (sym r.row_length-len.ensures.0), omega (arith, least r))
 
 returns : tie.Need-returns
 returns c =
     let r = c.before.before.before in
     let a = (start r).args in
-    let sums = sums_last a.shape a.frame.now (start r).requires.1 r.row-length.ensures.0 in
-    let column = ap (λ (m : ℕ). column_of a.shape.parties m 16 (m - 16) a.rows.now) r.row-length.ensures.0 in
-    more a.s _ _ (c.before.absorb.ensures ∙ ap (absorbed a.s) sums) (c.absorb-column.ensures ∙ ap (absorbed c.before.absorb.result) column)
+    let sums = sums_last a.shape a.frame.now (start r).requires.1 r.row_length-len.ensures.0 in
+    let column = ap (λ (m : ℕ). column_of a.shape.parties m 16 (m - 16) a.rows.now) r.row_length-len.ensures.0 in
+    more a.s _ _ (c.absorb-a.ensures ∙ ap (absorbed a.s) sums) (c.absorb_column.ensures ∙ ap (absorbed c.absorb-a.result) column)
 
 pub absorb_third_spec : {M : Type 1} → statement M
 absorb_third_spec =
     tie.close
-    (tie.spec (λ c κs. c.before.before.requires.0) least within (λ c. rest_le _ _) (λ c. rest_le _ _) (λ c. le_refl _) (λ c κs. tt)
+    (tie.spec (λ c κs. c.requires.0) least within (λ c. rest_le _ _) (λ c. rest_le _ _) (λ c. le_refl _) (λ c κs. tt)
     absorb-column-requires returns)

@@ -20,18 +20,18 @@ use Rattle.frame_hashes.proofs.complete_rows.Tie as tie
 
 -- ---- earlier moments
 
-abbrev copy-at2-before-slice-known2 : tie.After-slice-known2 → tie.After-copy-at2
-copy-at2-before-slice-known2 c = c.before.before.before.before.before.before.before.before.before
+abbrev copy-at2-before-slice-known2 : tie.After-slice_known-2-1 → tie.After-copy_at-2
+copy-at2-before-slice-known2 c = c.before.before.before.before.before.before.before.before
 
 rest_le : (a b : ℕ) → a - b ≤ a
 rest_le a b = omega arith
 
-module _ (z : tie.After-row-length) where
+module _ (z : tie.After-row_length-len) where
   abbrev start : tie.Start
   start = z.before.before.before.before
 
   abbrev len : ℕ
-  len = z.row-length.result
+  len = z.row_length-len.result
 
   -- where c, a and b begin
   abbrev at : ℕ
@@ -47,51 +47,51 @@ module _ (z : tie.After-row-length) where
   zeros = replicate 142 0
 
   least : 16 ≤ len
-  least = omega (arith, z.row-length.ensures.0)
+  least = omega (arith, z.row_length-len.ensures.0)
 
   most : len ≤ 142
-  most = omega (arith, row_most start.pre.0, z.row-length.ensures.0)
+  most = omega (arith, row_most start.requires.0, z.row_length-len.ensures.0)
 
   within : len - 16 ≤ length start.args.frame.now
-  within = omega (arith, start.pre.3, z.row-length.ensures.0)
+  within = omega (arith, start.requires.3, z.row_length-len.ensures.0)
 
   cipher_long : {c : List ℕ} → c ≡ cipher → length c ≡ 16
-  cipher_long = ciphertext_long start.args.shape start.args.public.now start.pre.1
+  cipher_long = ciphertext_long start.args.shape start.args.public.now start.requires.1
 
   last_long : length last ≡ len - 16
-  last_long = sums_long start.args.shape start.args.frame.now start.pre.3 z.row-length.ensures.0
+  last_long = sums_long start.args.shape start.args.frame.now start.requires.3 z.row_length-len.ensures.0
 
 -- ---- what is written after each call
 
-module _ (x : tie.After-copy-at) where
-  abbrev begun : tie.After-row-length
+module _ (x : tie.After-copy_at) where
+  abbrev begun : tie.After-row_length-len
   begun = x.before.before.before
 
-  wrote1 : Wrote (zeros begun) ([] ++ cipher begun) (0 + 16) x.copy_at.last.0
+  wrote1 : Wrote (zeros begun) ([] ++ cipher begun) (0 + 16) x.copy_at.new.dst
   wrote1 =
       wrote_more (cipher begun) (wrote_none (zeros begun)) (cipher_long begun refl)
-      (x.copy_at.ensures ∙ ap (put (zeros begun) 0) x.before.ciphertext.ensures) x.copy_at.kept.0
+      (x.copy_at.ensures ∙ ap (put (zeros begun) 0) x.ciphertext.ensures) x.copy_at.auto.dst
 
-module _ (y : tie.After-copy-at2) where
-  abbrev first : tie.After-copy-at
+module _ (y : tie.After-copy_at-2) where
+  abbrev first : tie.After-copy_at
   first = y.before.before.before.before
 
-  abbrev z : tie.After-row-length
+  abbrev z : tie.After-row_length-len
   z = begun first
 
   abbrev s : tie.Start
   s = start z
 
-  wrote2 : Wrote (zeros z) (([] ++ cipher z) ++ last z) (0 + 16 + (len z - 16)) y.copy-at2.last.0
-  wrote2 = wrote_more (last z) (wrote1 first) (last_long z) y.copy-at2.ensures y.copy-at2.kept.0
+  wrote2 : Wrote (zeros z) (([] ++ cipher z) ++ last z) (0 + 16 + (len z - 16)) y.copy_at-2.new.dst
+  wrote2 = wrote_more (last z) (wrote1 first) (last_long z) y.copy_at-2.ensures y.copy_at-2.auto.dst
 
-  room : len z ≤ length y.copy-at2.last.0
+  room : len z ≤ length y.copy_at-2.new.dst
   room = omega (arith, most z, wrote2.long)
 
-  whole_long : length (take (len z - 0) y.copy-at2.last.0) ≡ total (row_sizes s.args.shape)
-  whole_long = front_long (len z) y.copy-at2.last.0 room ∙ z.row-length.ensures.0
+  whole_long : length (take (len z - 0) y.copy_at-2.new.dst) ≡ total (row_sizes s.args.shape)
+  whole_long = front_long (len z) y.copy_at-2.new.dst room ∙ z.row_length-len.ensures.0
 
-copy-at-requires-2 : tie.Need-copy-at-requires-2
+copy-at-requires-2 : tie.Need-copy_at-requires-2
 copy-at-requires-2 c κs =
     let x = c.before.before.before in
     let z = begun x in
@@ -99,28 +99,28 @@ copy-at-requires-2 c κs =
 
 complete-requires : tie.Need-complete-requires
 complete-requires c κs =
-    let y = c.before.before.before.before.before in
+    let y = c.before.before.before.before in
     let p = (s y).requires in
     let room : len (z y) ≤ length (zeros (z y)) = omega (arith, most (z y)) in (
       p.2,
       p.4 ∙ ap (λ (n : ℕ). (s y).args.shape.parties * n) (sym (whole_long y)),
-      front_long (len (z y)) (zeros (z y)) room ∙ (z y).row-length.ensures.0 ∙ sym (whole_long y),
+      front_long (len (z y)) (zeros (z y)) room ∙ (z y).row_length-len.ensures.0 ∙ sym (whole_long y),
     )
 
 returns : tie.Need-returns
 returns c =
     let y = copy-at2-before-slice-known2 c in
     let a = (s y).args in
-    let p = (s y).pre in
-    c.before.before.before.complete.ensures.0
+    let p = (s y).requires in
+    c.complete.ensures.0
     ∙ ap₂ (λ (w : List ℕ) (n : ℕ). rows (completed_row a.shape.parties a.hidden w (λ i. row n i a.rows.now)) a.shape.parties)
-    (whole_written a.shape a.frame.now p.3 (z y).row-length.ensures.0 a.public.now (wrote2 y)) (whole_long y)
+    (whole_written a.shape a.frame.now p.3 (z y).row_length-len.ensures.0 a.public.now (wrote2 y)) (whole_long y)
 
 pub complete_rows_spec : {M : Type 1} → statement M
 complete_rows_spec =
     tie.close
-    (tie.spec (λ c κs. c.before.before.before.requires.0) least (λ c. refl) (λ c κs. (start c.before).pre.1)
-    (λ c κs. omega (arith, cipher_long c.before.before c.ciphertext.ensures)) (λ c. sym c.before.before.copy_at.auto.0)
+    (tie.spec (λ c κs. c.requires.0) least (λ c. refl) (λ c κs. (start c.before).requires.1)
+    (λ c κs. omega (arith, cipher_long c.before.before c.ciphertext.ensures)) (λ c. sym c.copy_at.auto.dst)
     (λ c. within c.before.before.before.before.before) (λ c. rest_le _ _) (λ c. rest_le _ _) (λ c. le_refl _) copy-at-requires-2
-    (λ c. zero-le) (λ c. zero-le) (λ c. room c.before.before) (λ c. zero-le) (λ c. zero-le) (λ c. omega (arith, most (z c.before.before.before)))
-    complete-requires (λ c. c.before.before.before.complete.auto.1.1.1.1.0) returns)
+    (λ c. zero-le) (λ c. zero-le) (λ c. room c.before) (λ c. zero-le) (λ c. zero-le) (λ c. omega (arith, most (z c.before.before)))
+    complete-requires (λ c. c.complete.auto.rows) returns)
