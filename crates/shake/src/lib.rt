@@ -1,3 +1,2 @@
 // SHAKE128 of FIPS 202 (specs/). The functions are in the crate `sponge`.
 #![tactic(auto)]
-
