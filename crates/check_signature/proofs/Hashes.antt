@@ -1,11 +1,10 @@
 -- A test that two lists are the same, as the code makes it; and the hashes recomputed, from what is absorbed. Assumes nothing.
 use mathlib.Core.Path.{◌≡◌, sym, ap, ap₂, ◌∙◌}
-use mathlib.Core.Bool.{Bool, true, false, not}
+use mathlib.Core.Bool.{Bool, true, false}
 use mathlib.Core.List.{List, [], ◌∷◌}
 use Prim.Native.Nat.{ℕ}
 use lib.Dec.{lit<}
 use lib.ListN.{length}
-use borrow.Author.Tests.{not-true, not-false}
 use Rattle.slices.specs.Lists.{rows, same}
 use Rattle.slices.specs.Bytes.{Bytes, cons_bytes, append_bytes, rows_bytes}
 use Rattle.slices.specs.Numbers.{bytes_of_bytes}
@@ -31,13 +30,13 @@ module _ {h g' : List ℕ} {x : Bool} (u g : List ℕ) (refusal rest : Answer) (
   tested : same u g ≡ x
   tested = ap₂ same (sym e) (sym k) ∙ sym f
 
-  pub refused : not x ≡ true → refusal ≡ require (same u g) refusal rest
+  pub refused : x ≡ false → refusal ≡ require (same u g) refusal rest
   unfolding require
-  refused n = sym (simp (tested, not-true x n))
+  refused n = sym (simp (tested, n))
 
-  pub passed : not x ≡ false → rest ≡ require (same u g) refusal rest
+  pub passed : x ≡ true → rest ≡ require (same u g) refusal rest
   unfolding require
-  passed n = sym (simp (tested, not-false x n))
+  passed n = sym (simp (tested, n))
 
 -- ---- the hashes
 

@@ -17,20 +17,20 @@ use Rattle.check_signature.proofs.check.Statement.{statement}
 use Rattle.check_signature.proofs.check.Tie as tie
 
 -- where the lengths have been tested
-module _ (l : tie.After-verify) where
+module _ (l : tie.After-verify-refusal) where
   abbrev start : tie.Start
   start = l.before.before.before.before.before
 
-returns : tie.Need-returns
+returns : tie.Need-returns-in_default
 returns c =
     let l = c.before in
     let a = (start l).args in
-    refused a.shape a.public.now a.message.now a.s.now a.work.now l.verify.ensures c.match.keys2
+    refused a.shape a.public.now a.message.now a.s.now a.work.now l.verify-refusal.ensures c.in_default.in_default-own.keys2
 
 -- they are right
-module _ (g : tie.After-enum-told) where
-  abbrev tested : tie.After-verify
-  tested = g.before.before
+module _ (g : tie.In-Accepted) where
+  abbrev tested : tie.After-verify-refusal
+  tested = g.before
 
   abbrev entry : tie.Start
   entry = start tested
@@ -39,43 +39,35 @@ module _ (g : tie.After-enum-told) where
   asked = let a = entry.args in tests a.shape a.public.now a.message.now a.s.now a.work.now
 
   right : (k : ℕ) → test_at asked k ≡ true
-  right = passes asked refl tested.verify.ensures g.enum_told.given.1
+  right = passes asked refl tested.verify-refusal.ensures g.in-Accepted.is
 
   room : work_length ≤ length entry.args.work.now
   room = leb-true _ _ (right 3)
 
-check-products-requires : tie.Need-check-products-requires
+check-products-requires : tie.Need-check_products-answer-requires
 check-products-requires c κs =
     let g = c.before in
-    let known = (tested g).before.before in (
+    let known = (tested g) in (
       record {
         valid = (entry g).requires;
-        public_sized = record { size = eqb-true _ _ (right g 0); bytes = bytes_of known.before.before.shared-slice-known.given };
-        file_sized = record { size = eqb-true _ _ (right g 2); bytes = bytes_of known.shared-slice-known3.given };
+        public_sized = record { size = eqb-true _ _ (right g 0); bytes = bytes_of known.shared_slice_known-1.given };
+        file_sized = record { size = eqb-true _ _ (right g 2); bytes = bytes_of known.shared_slice_known-3-1.given };
       },
       room g,
     )
 
-abbrev lengths-right : tie.After-check-products → tie.After-enum-told
-lengths-right x = x.before.before
-
-abbrev checked-before-clear : tie.After-clear → tie.After-check-products
-checked-before-clear z = z.before.before.before.before
-
 clear-requires : tie.Need-clear-requires
 clear-requires c κs =
-    let x = c.before.before.before in omega (arith, x.check-products.ensures.1.long, room (lengths-right x))
+    let x = c.before.before.before in omega (arith, x.check_products-answer.ensures.1.long, room x.before.before)
 
-returns-2 : tie.Need-returns-2
+returns-2 : tie.Need-returns
 returns-2 c =
-    let z = c.before.before in
-    let x = checked-before-clear z in
-    let g = lengths-right x in
-    let a = (entry g).args in
-    answered a.shape a.public.now a.message.now a.s.now a.work.now (right g) x.check-products.ensures.0
-    x.check-products.ensures.1 z.clear.ensures
+    let g = c.before.before.before.before.before.before.before.before in
+    let a = c.args in
+    answered a.shape a.public.now a.message.now a.s.now a.work.now (right g) c.check_products-answer.ensures.0
+    c.check_products-answer.ensures.1 c.clear.ensures
 
 pub check_spec : {M : Type 1} → statement M
 check_spec =
     tie.close
-    (tie.spec (λ c κs. search rules) (λ c. c.match.keys1) returns check-products-requires clear-requires (λ c. search rules) returns-2)
+    (tie.spec (λ c κs. search rules) (λ c. search rules) returns check-products-requires clear-requires (λ c. search rules) returns-2)

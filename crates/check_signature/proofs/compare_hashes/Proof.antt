@@ -8,39 +8,27 @@ use Rattle.check_signature.proofs.Hashes.{refused, passed}
 use Rattle.check_signature.proofs.compare_hashes.Statement.{statement}
 use Rattle.check_signature.proofs.compare_hashes.Tie as tie
 
--- ---- earlier moments
-
-abbrev start-before-equal : tie.After-equal → tie.Start
-start-before-equal c = c.before.before.before.before.before.before.before
-
-returns : tie.Need-returns
+returns : tie.Need-returns-then-not-equal
 returns c =
-    let q = c.before in
-    let a = (start-before-equal q).args in
+    let a = c.args in
     refused (squeezed (finished a.t.first) 32) (signature_h1 a.s.now) FirstHashDiffers _
-    q.before.before.before.before.output.ensures q.before.h1.ensures q.equal.ensures c.if1.true
+    c.output.ensures c.h1.ensures c.equal.ensures c.if-not-equal.true
 
-returns-2 : tie.Need-returns-2
+returns-2 : tie.Need-returns-then-not-equal-2
 returns-2 c =
-    let r = c.before in
-    let l = r.before.before.before.before.before.before in
-    let q = l.before in
-    let a = (start-before-equal q).args in
+    let a = c.args in
     refused (squeezed (finished a.t.third) 32) (signature_h3 a.s.now) ThirdHashDiffers Accepted
-    r.before.before.before.before.output2.ensures r.before.h3.ensures r.equal2.ensures c.if2.true
+    c.output-2.ensures c.h3.ensures c.equal-2.ensures c.if-not-equal-2.true
     ∙ passed (squeezed (finished a.t.first) 32) (signature_h1 a.s.now) FirstHashDiffers _
-    q.before.before.before.before.output.ensures q.before.h1.ensures q.equal.ensures l.if1.false
+    c.output.ensures c.h1.ensures c.equal.ensures c.if-not-equal.false
 
-returns-3 : tie.Need-returns-3
+returns-3 : tie.Need-returns
 returns-3 c =
-    let r = c.before in
-    let l = r.before.before.before.before.before.before in
-    let q = l.before in
-    let a = (start-before-equal q).args in
+    let a = c.args in
     passed (squeezed (finished a.t.third) 32) (signature_h3 a.s.now) ThirdHashDiffers Accepted
-    r.before.before.before.before.output2.ensures r.before.h3.ensures r.equal2.ensures c.if2.false
+    c.output-2.ensures c.h3.ensures c.equal-2.ensures c.if-not-equal-2.false
     ∙ passed (squeezed (finished a.t.first) 32) (signature_h1 a.s.now) FirstHashDiffers _
-    q.before.before.before.before.output.ensures q.before.h1.ensures q.equal.ensures l.if1.false
+    c.output.ensures c.h1.ensures c.equal.ensures c.if-not-equal.false
 
 pub compare_hashes_spec : {M : Type 1} → statement M
 compare_hashes_spec =

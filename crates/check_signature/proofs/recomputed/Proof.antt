@@ -18,19 +18,19 @@ use Rattle.check_signature.proofs.recomputed.Tie as tie
 abbrev h1-before-h3 : tie.After-h3 → tie.After-h1
 h1-before-h3 c = c.before.before.before.before.before.before.before
 
-abbrev draw-before-firsts3 : tie.After-firsts3 → tie.After-draw
+abbrev draw-before-firsts3 : tie.After-firsts-3-1 → tie.After-draw
 draw-before-firsts3 c = c.before.before.before.before.before.before.before.before.before
 
-abbrev draw2-before-seconds3 : tie.After-seconds3 → tie.After-draw2
+abbrev draw2-before-seconds3 : tie.After-seconds-3-1 → tie.After-draw-2
 draw2-before-seconds3 c = c.before.before.before.before.before.before.before
 
-abbrev h3-before-absorb-executions-arg2 : tie.After-absorb-executions-arg2 → tie.After-h3
+abbrev h3-before-absorb-executions-arg2 : tie.After-absorb_executions-arg-2-1 → tie.After-h3
 h3-before-absorb-executions-arg2 c = c.before.before.before.before.before.before.before.before
 
-abbrev h1-before-absorb-executions-arg2 : tie.After-absorb-executions-arg2 → tie.After-h1
+abbrev h1-before-absorb-executions-arg2 : tie.After-absorb_executions-arg-2-1 → tie.After-h1
 h1-before-absorb-executions-arg2 c = h1-before-h3 (h3-before-absorb-executions-arg2 c)
 
-abbrev start-before-struct-known2 : tie.After-struct-known2 → tie.Start
+abbrev start-before-struct-known2 : tie.After-struct_known-2-1 → tie.Start
 start-before-struct-known2 c = c.before.before.before.before.before.before.before
 
 module _ (s : tie.Start) where
@@ -44,49 +44,49 @@ module _ (s : tie.Start) where
   p = s.args.shape.executions * 4
 
   columns : first_challenge_length s.args.shape ≤ 60
-  columns = columns_most s.pre.0.valid
+  columns = columns_most s.requires.0.valid
 
   few_firsts : f ≤ 2460
-  few_firsts = firsts_most s.pre.0.valid
+  few_firsts = firsts_most s.requires.0.valid
 
   few_seconds : w ≤ 246
-  few_seconds = seconds_most s.pre.0.valid
+  few_seconds = seconds_most s.requires.0.valid
 
   few_thirds : p ≤ 164
-  few_thirds = thirds_most s.pre.0.valid
+  few_thirds = thirds_most s.requires.0.valid
 
   head_room : head_length ≤ length s.args.s.now
-  head_room = omega (arith, s.pre.0.file_sized.size)
+  head_room = omega (arith, s.requires.0.file_sized.size)
 
 abbrev start : tie.After-h1 → tie.Start
 start c = c.before.before.before.before.before.before.before.before
 
-firsts-kept : tie.Need-slice-aggregate-absorb-executions
+firsts-kept : tie.Need-slice_bounds-absorb_executions-end
 firsts-kept c = let s = start (h1-before-h3 c.before.before.before.before) in
-    array_kept (f s) (few_firsts s) (draw-before-firsts3 c).draw.last.1.1.0 (draw-before-firsts3 c).draw.kept.1.1.0
+    array_kept (f s) (few_firsts s) (draw-before-firsts3 c).draw.new.out (draw-before-firsts3 c).draw.auto.out
 
-seconds-kept : tie.Need-slice-aggregate-absorb-executions-2
+seconds-kept : tie.Need-slice_bounds-absorb_executions-end-2
 seconds-kept c = let s = start (h1-before-h3 c.before.before.before.before.before) in
-    array_kept (w s) (few_seconds s) (draw2-before-seconds3 c).draw2.last.1.1.0 (draw2-before-seconds3 c).draw2.kept.1.1.0
+    array_kept (w s) (few_seconds s) (draw2-before-seconds3 c).draw-2.new.out (draw2-before-seconds3 c).draw-2.auto.out
 
-thirds-kept : tie.Need-slice-aggregate-absorb-executions-3
+thirds-kept : tie.Need-slice_bounds-absorb_executions-end-3
 thirds-kept c = let s = start (h1-before-h3 c.before.before.before.before.before.before) in
-    array_kept (p s) (few_thirds s) c.before.before.before.before.draw3.new.1.1.0 c.before.before.before.before.draw3.auto.1.1.0
+    array_kept (p s) (few_thirds s) c.draw-3.new.out c.draw-3.auto.out
 
-absorb-executions-requires : tie.Need-absorb-executions-requires
+absorb-executions-requires : tie.Need-absorb_executions-requires
 absorb-executions-requires c κs =
     let s = start (h1-before-absorb-executions-arg2 c) in
     let a = s.args in (
-      s.pre.0,
+      s.requires.0,
       record {
         firsts_are = drawn_front (f s) (few_firsts s) (ap (6 ∷◌) (h1-before-absorb-executions-arg2 c).h1.ensures)
             (draw-before-firsts3 c.before.before.before.before).draw.ensures;
-        seconds_are = drawn_front (w s) (few_seconds s) (ap (7 ∷◌) s.pre.1) (draw2-before-seconds3 c.before.before.before).draw2.ensures;
+        seconds_are = drawn_front (w s) (few_seconds s) (ap (7 ∷◌) s.requires.1) (draw2-before-seconds3 c.before.before.before).draw-2.ensures;
         thirds_are = drawn_front (p s) (few_thirds s) (ap (8 ∷◌) (h3-before-absorb-executions-arg2 c).h3.ensures)
-            c.before.before.before.before.before.before.draw3.ensures;
+            c.draw-3.ensures;
       },
-      s.pre.2,
-      s.pre.3,
+      s.requires.2,
+      s.requires.3,
     )
 
 pub recomputed_spec : {M : Type 1} → statement M
@@ -100,6 +100,6 @@ recomputed_spec =
     (λ c κs. head_room (start c.before.before.before.before.before.before)) (λ c. zero-le) (λ c. zero-le)
     (λ c. few_thirds (start (h1-before-h3 c)))
     (λ c κs. tt) firsts-kept
-    seconds-kept thirds-kept absorb-executions-requires (λ c. c.before.before.before.before.absorb-executions.auto.1.1.1.1.1.1.1.0)
-    (λ c. c.before.before.before.before.absorb-executions.auto.1.1.1.1.1.1.1.1.0)
-    (λ c. c.before.before.before.before.absorb-executions.ensures))
+    seconds-kept thirds-kept absorb-executions-requires (λ c. c.absorb_executions.auto.commitments)
+    (λ c. c.absorb_executions.auto.rows)
+    (λ c. c.absorb_executions.ensures))
