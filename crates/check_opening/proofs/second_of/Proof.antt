@@ -12,27 +12,27 @@ use Rattle.stated.proofs.Laws.{transcript_fits}
 use Rattle.check_opening.proofs.second_of.Statement.{statement}
 use Rattle.check_opening.proofs.second_of.Tie as tie
 
-abbrev start : tie.After-transcript-sizes → tie.Start
+abbrev start : tie.After-transcript_sizes → tie.Start
 start z = z.before.before
 
-offset-requires : tie.Need-offset-requires
+offset-requires : tie.Need-offset-at-requires
 offset-requires c κs =
     let z = c.before in
     let s = start z in
-    let fits = transcript_fits s.pre.0 s.args.transcript.now z.transcript-sizes.ensures s.pre.1 8 (omega arith) in
+    let fits = transcript_fits s.requires.0 s.args.transcript.now z.transcript_sizes.ensures s.requires.1 8 (omega arith) in
     (omega (arith, fits.0), fits.2)
 
-module _ (c : tie.After-offset) where
+module _ (c : tie.After-offset-at) where
   abbrev begun : tie.Start
   begun = start c.before.before
 
-  at_is : c.offset.result ≡ total (take 8 (transcript_sizes begun.args.shape))
-  at_is = c.offset.ensures ∙ ap (λ l. total (take 8 l)) c.before.before.transcript-sizes.ensures
+  at_is : c.offset-at.result ≡ total (take 8 (transcript_sizes begun.args.shape))
+  at_is = c.offset-at.ensures ∙ ap (λ l. total (take 8 l)) c.transcript_sizes.ensures
 
 load-requires : tie.Need-load-requires
 load-requires c κs =
     let s = begun c in
-    (omega (arith, s.pre.0.wide_most), omega (arith, at_is c, total_take_fits (transcript_sizes s.args.shape) 8, s.pre.1))
+    (omega (arith, s.requires.0.wide_most), omega (arith, at_is c, total_take_fits (transcript_sizes s.args.shape) 8, s.requires.1))
 
 returns : tie.Need-returns
 returns c =

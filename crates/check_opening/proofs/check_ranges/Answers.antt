@@ -1,0 +1,39 @@
+-- The ranges in the call's order, then the parties, and the front is zero.
+use borrow.Enum.Refused.{opened}
+use Rattle.std.proofs.Common.{◌≡◌, arith, get_or}
+use Rattle.slices.specs.Bytes.{bytes_of}
+use Rattle.banquet.specs.Sets.{scheme_of}
+use Rattle.banquet.specs.Opening.{execution_of}
+use Rattle.check_opening.proofs.Ranges.{execution_is, ranges_refused, parties_checked}
+use Rattle.check_opening.proofs.check_ranges.Goals as goal
+
+pub returns-in_default : goal.returns-in_default
+returns-in_default c =
+    let a = c.args in
+    -- the execution is a byte
+    let numbered : get_or a.transcript.now 32 0 ≡ execution_of (scheme_of a.shape) a.transcript.now =
+    execution_is a.shape a.transcript.now (omega (arith, c.requires.2)) in
+    ranges_refused a.shape a.public.now a.transcript.now a.hidden a.siblings.now a.work.now numbered c.second_of-second.ensures
+    c.ranges-refusal.ensures (opened c.in_default.in_default-own.keys2)
+
+pub check_parties-answer-requires : goal.check_parties-answer-requires
+check_parties-answer-requires c =
+    let a = c.args in (
+      record {
+        valid = c.requires.0;
+        key = record { size = c.requires.1; bytes = bytes_of c.type_inv.public };
+        stated = record { size = c.requires.2; bytes = bytes_of c.type_inv.transcript };
+        e_is = execution_is a.shape a.transcript.now (omega (arith, c.requires.2));
+        second_is = c.second_of-second.ensures;
+      },
+      c.requires.3,
+      c.requires.4,
+    )
+
+pub returns : goal.returns
+returns c =
+    let a = c.args in
+    let numbered : get_or a.transcript.now 32 0 ≡ execution_of (scheme_of a.shape) a.transcript.now =
+    execution_is a.shape a.transcript.now (omega (arith, c.requires.2)) in
+    parties_checked a.shape a.public.now a.transcript.now a.hidden a.siblings.now a.work.now numbered c.second_of-second.ensures
+    c.ranges-refusal.ensures c.in-Accepted.is c.check_parties-answer.ensures.value c.check_parties-answer.ensures.scratch c.clear.ensures
