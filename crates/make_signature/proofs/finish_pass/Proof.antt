@@ -25,33 +25,33 @@ module _ (d : tie.After-draw) where
   size = start.args.shape.executions * 4
 
   asked : length (take (size - 0) zeros) ≡ size
-  asked = front_long size zeros (omega (arith, start.pre.0.valid.brief))
+  asked = front_long size zeros (omega (arith, start.requires.0.valid.brief))
 
-  thirds_are : d.draw.last.1.1.0 ≡ shake128 (8 ∷ start.args.h3.now) size
+  thirds_are : d.draw.new.out ≡ shake128 (8 ∷ start.args.h3.now) size
   thirds_are = d.draw.ensures ∙ ap (shake128 (8 ∷ start.args.h3.now)) asked
 
-finish-frames-requires : tie.Need-finish-frames-requires
+finish-frames-requires : tie.Need-finish_frames-requires
 finish-frames-requires c κs =
-    let d = c.before.before.before.before in
+    let d = c.before.before.before in
     let p = (start d).requires in
-    (p.0.valid, p.1, p.2, d.draw.auto.1.1.0 ∙ asked d, p.0.frames_size)
+    (p.0.valid, p.1, p.2, d.draw.auto.out ∙ asked d, p.0.frames_size)
 
 returns : tie.Need-returns
 returns c =
-    let x = c.before.before.before in
-    let d = x.before.before.before.before.before in
+    let x = c in
+    let d = x.before.before.before.before.before.before.before in
     let a = (start d).args in
-    finished_right (start d).requires.0.valid a.h3.now a.salt.now a.roots.now a.frames.now (thirds_are d) x.finish-frames.ensures
+    finished_right (start d).requires.0.valid a.h3.now a.salt.now a.roots.now a.frames.now (thirds_are d) x.finish_frames.ensures
 
 pub finish_pass_spec : {M : Type 1} → statement M
 finish_pass_spec =
     tie.close
     (tie.spec
-    (λ c. omega (arith, c.before.before.before.before.before.requires.0.valid.brief))
+    (λ c. omega (arith, c.requires.0.valid.brief))
     (λ c. omega arith)
     (λ c. omega arith)
-    (λ c. omega (arith, c.before.before.before.before.before.requires.0.valid.brief))
+    (λ c. omega (arith, c.requires.0.valid.brief))
     (λ c κs. tt)
     finish-frames-requires
-    (λ c. c.before.before.before.finish-frames.auto.1.1.1.1.0)
+    (λ c. c.finish_frames.auto.frames)
     returns)
