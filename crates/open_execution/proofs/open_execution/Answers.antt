@@ -1,0 +1,58 @@
+-- The lengths are tested in order.
+use Rattle.std.proofs.Common.{◌∙◌, refl, sym, ap, length}
+use borrow.Author.Tests.{eqb-true, leb-true}
+use borrow.Enum.Refused.{opened}
+use Rattle.banquet.specs.declared.Answer.{Answer}
+use Rattle.banquet.specs.declared.Answer.TheVariants.{Accepted}
+use Rattle.banquet.specs.Answer.{in_order}
+use Rattle.banquet.specs.Key.{check_key}
+use Rattle.banquet.specs.Opening.{range_tests, opening}
+use Rattle.banquet.specs.Sets.{scheme_of}
+use Rattle.banquet.specs.Calls.{open_tests, made_after, open_answer}
+use Rattle.banquet.proofs.Refusals.{passed_at}
+use Rattle.verdict.specs.Tests.{made_refused, passes}
+use Rattle.open_execution.proofs.open_execution.Goals as goal
+
+pub returns-in_default : goal.returns-in_default
+unfolding open_answer
+returns-in_default c =
+    let a = c.args in
+    made_refused
+    (open_tests a.shape (length a.key.now) (length a.public.now) (length a.salt.now) (length a.root.now) (length a.first.now)
+    (length a.out.now) (length a.work.now))
+    refl c.open-refusal.ensures (opened c.in_default.in_default-own.keys2) (in_order (range_tests a.shape a.e a.hidden a.second) (check_key (scheme_of a.shape) a.public.now a.key.now Accepted))
+    (opening (scheme_of a.shape) a.key.now a.public.now a.salt.now a.root.now a.first.now a.e a.second a.hidden) a.out.now a.work.now
+
+pub open_key-requires : goal.open_key-requires
+open_key-requires c =
+    let a = c.args in
+    let right =
+    passes
+    (open_tests a.shape (length a.key.now) (length a.public.now) (length a.salt.now) (length a.root.now) (length a.first.now)
+    (length a.out.now) (length a.work.now))
+    refl c.open-refusal.ensures c.in-Accepted.is in (
+      record {
+        valid = c.requires.0;
+        key_size = eqb-true _ _ (right 0);
+        public_size = eqb-true _ _ (right 1);
+        salt_size = eqb-true _ _ (right 2);
+        root_size = eqb-true _ _ (right 4);
+        first_size = eqb-true _ _ (right 3);
+      },
+      c.requires.1,
+      leb-true _ _ (right 5),
+      leb-true _ _ (right 6),
+    )
+
+pub returns : goal.returns
+unfolding open_answer
+returns c =
+    let a = c.args in
+    let tests =
+    open_tests a.shape (length a.key.now) (length a.public.now) (length a.salt.now) (length a.root.now) (length a.first.now)
+    (length a.out.now) (length a.work.now) in
+    c.open_key.ensures
+    ∙ ap
+    (λ (x : Answer).
+    made_after x (opening (scheme_of a.shape) a.key.now a.public.now a.salt.now a.root.now a.first.now a.e a.second a.hidden) a.out.now a.work.now)
+    (sym (passed_at tests (in_order (range_tests a.shape a.e a.hidden a.second) (check_key (scheme_of a.shape) a.public.now a.key.now Accepted)) (passes tests refl c.open-refusal.ensures c.in-Accepted.is)))
