@@ -33,7 +33,7 @@ fn outcome_of(answer: io::Result<usize>) -> Outcome
 }
 
 // How many bytes were read, and whether the last read failed, so that the text may go on.
-#[derive(Drop)]
+#[derive(Clone, Copy)]
 pub struct Input {
     pub length: usize,
     pub failed: bool,
