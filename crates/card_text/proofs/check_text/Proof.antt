@@ -12,83 +12,76 @@ use Rattle.card_text.proofs.Checked.{sizes_room, Told, card_refused, lines_withi
 use Rattle.card_text.proofs.check_text.Statement.{statement}
 use Rattle.card_text.proofs.check_text.Tie as tie
 
-abbrev begun : tie.After-card-sizes → tie.Start
-begun z = z.before.before.before.before
-
 -- there is room for what the longest card stands for
 room_long : length (replicate {A = ℕ} (card_bytes base message_limit) 0) ≡ card_bytes base message_limit
 room_long = length-replicate {A = ℕ} (card_bytes base message_limit) 0
 
-read-lines-requires : tie.Need-read-lines-requires
+read-lines-requires : tie.Need-read_lines-answer-requires
 read-lines-requires c κs =
-    let z = c.before.before.before in
-    let lines = z.before.lines.ensures in
-    let s = begun z in
-    sizes_room s.args.shape z.card-sizes.result lines.0 z.card-sizes.ensures (replicate (card_bytes base message_limit) 0) lines.1
-    (omega (arith, s.pre.1, room_long))
+    let lines = c.lines-lines.ensures in
+    sizes_room c.args.shape c.card_sizes-sizes.result lines.0 c.card_sizes-sizes.ensures (replicate (card_bytes base message_limit) 0) lines.1
+    (omega (arith, c.requires.1, room_long))
 
 -- the text was read
-module _ (r : tie.After-read-lines) where
-  abbrev sized : tie.After-card-sizes
-  sized = r.before.before.before.before
+module _ (r : tie.After-read_lines-answer) where
+  abbrev sized : tie.After-card_sizes-sizes
+  sized = r.before.before.before
 
   abbrev start : tie.Start
-  start = begun sized
+  start = sized.before.before.before.before
 
   abbrev text : List ℕ
   text = start.args.text.now
 
   abbrev lines : ℕ
-  lines = sized.before.lines.result
+  lines = sized.lines-lines.result
 
   abbrev bytes : List ℕ
-  bytes = r.read-lines.last.1.1.1.0
+  bytes = r.read_lines-answer.new.out
 
-  told : Told start.args.shape text lines sized.card-sizes.result r.read-lines.result
-  told = record { many = sized.before.lines.ensures.0; are = sized.card-sizes.ensures; answer = r.read-lines.ensures.0 }
+  told : Told start.args.shape text lines sized.card_sizes-sizes.result r.read_lines-answer.result
+  told = record { many = sized.lines-lines.ensures.0; are = sized.card_sizes-sizes.ensures; answer = r.read_lines-answer.ensures.0 }
 
   room : card_bytes start.args.shape message_limit ≤ length bytes
-  room = omega (arith, start.pre.1, r.read-lines.kept.1.1.1.0, room_long)
+  room = omega (arith, start.requires.1, r.read_lines-answer.auto.out, room_long)
 
-returns : tie.Need-returns
+returns : tie.Need-returns-in_default
 returns c =
     let r = c.before.before in
-    card_refused (told r) (start r).args.work.now c.match.keys2
+    card_refused (told r) (start r).args.work.now c.in_default.in_default-own.keys2
 
 -- it is in form
-abbrev read : tie.After-public-key-length → tie.After-read-lines
-read k = k.before.before.before.before.before
+abbrev read : tie.After-public_key_length-message → tie.After-read_lines-answer
+read k = k.before.before.before.before
 
-module _ (c : tie.After-signature-length) where
-  abbrev in-form : tie.After-public-key-length
+module _ (c : tie.After-signature_length) where
+  abbrev in-form : tie.After-public_key_length-message
   in-form = c.before
 
   abbrev size : ℕ
-  size = c.signature-length.result
+  size = c.signature_length.result
 
   abbrev end : ℕ
   end = (length (text (read in-form)) - lines (read in-form)) / 2
 
-  within : (size ≤ end) × (in-form.public-key-length.result ≤ end - size) × (end - size ≤ end) × (end ≤ length (bytes (read in-form)))
+  within : (size ≤ end) × (in-form.public_key_length-message.result ≤ end - size) × (end - size ≤ end) × (end ≤ length (bytes (read in-form)))
   within =
-      parts_within (told (read in-form)) in-form.before.before.enum_told.given.1 in-form.public-key-length.ensures.0
-      c.signature-length.ensures.0 (bytes (read in-form)) (room (read in-form))
+      parts_within (told (read in-form)) in-form.in-Accepted.is in-form.public_key_length-message.ensures.0
+      c.signature_length.ensures.0 (bytes (read in-form)) (room (read in-form))
 
-returns-2 : tie.Need-returns-2
+returns-2 : tie.Need-returns
 returns-2 c =
-    let m = c.before.before in
-    let z = m.before.before.before.before.before in
-    let k = z.before in
+    let k = c.before.before.before.before.before.before.before.before in
     let r = read k in
-    card_checked (told r) k.before.before.enum_told.given.1 k.public-key-length.ensures.0 z.signature-length.ensures.0
-    (start r).args.work.now (bytes r) (replicate (card_bytes base message_limit) 0) r.read-lines.ensures.1 m.check.ensures
+    card_checked (told r) c.in-Accepted.is c.public_key_length-message.ensures.0 c.signature_length.ensures.0
+    c.args.work.now (bytes r) (replicate (card_bytes base message_limit) 0) c.read_lines-answer.ensures.1 c.check.ensures
 
 pub check_text_spec : {M : Type 1} → statement M
 check_text_spec =
     tie.close
     (tie.spec (λ c κs. search rules) (λ c κs. search rules) (λ c. search rules) (λ c. search rules) (λ c. search rules) (λ c. search rules)
     read-lines-requires (λ c. search rules) returns (λ c. search rules) (λ c κs. search rules)
-    (λ c. lines_within (told (read c)) c.before.before.enum_told.given.1) (λ c κs. search rules) (λ c. (within c).0) (λ c. search rules)
+    (λ c. lines_within (told (read c)) c.in-Accepted.is) (λ c κs. search rules) (λ c. (within c).0) (λ c. search rules)
     (λ c. search rules) (λ c. omega (arith, within c)) (λ c. (within c.before).1) (λ c. (within c.before).1)
     (λ c. omega (arith, within c.before)) (λ c. (within c.before.before).2) (λ c. (within c.before.before).2)
     (λ c. (within c.before.before).3) (λ c κs. search rules) (λ c. search rules) returns-2)
