@@ -6,11 +6,11 @@ use Rattle.print_card.proofs.print_card.Tie as tie
 
 returns : tie.Need-returns
 returns c =
-    let p = c.before in
-    let v = p.before.before in
-    let k = v.before.before in
-    let s = k.before.before.before in
-    card_printed s.args.text.now k.verify-card.ensures v.verdict.ensures p.print-verdict.ensures
+    let p = c in
+    let v = p in
+    let k = v in
+    let s = k in
+    card_printed s.args.text.now k.verify_card-answer.ensures v.verdict.ensures p.print_verdict-length.ensures
 
 pub print_card_spec : {M : Type 1} → statement M
 print_card_spec =
