@@ -5,7 +5,7 @@ use Rattle.signatures.proofs.sign.Statement.{statement}
 use Rattle.signatures.proofs.sign.Tie as tie
 
 returns : tie.Need-returns
-returns c = c.before.before.before.before.sign-message.ensures
+returns c = c.sign_message.ensures
 
 pub sign_spec : {M : Type 1} → statement M
 sign_spec = tie.close (tie.spec (λ c κs. valid_base) (λ c. search rules) (λ c. search rules) returns)

@@ -5,7 +5,7 @@ use Rattle.signatures.proofs.verify.Statement.{statement}
 use Rattle.signatures.proofs.verify.Tie as tie
 
 returns : tie.Need-returns
-returns c = c.before.before.check.ensures
+returns c = c.check.ensures
 
 pub verify_spec : {M : Type 1} → statement M
 verify_spec = tie.close (tie.spec (λ c κs. valid_base) (λ c. search rules) returns)
