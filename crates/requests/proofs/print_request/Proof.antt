@@ -26,12 +26,12 @@ sizes_room : {sizes : List ℕ} → sizes ≡ request_sizes base message_limit
 sizes_room e =
     (omega (arith, ap length e), omega (arith, ap total e, length-replicate {A = ℕ} (total (request_sizes base message_limit)) 0))
 
-read-lines-requires : tie.Need-read-lines-requires
-read-lines-requires c κs = sizes_room c.before.before.request-sizes.ensures
+read-lines-requires : tie.Need-read_lines-answer-requires
+read-lines-requires c κs = sizes_room c.request_sizes-sizes.ensures
 
 -- the text was read
-module _ (r : tie.After-read-lines) where
-  abbrev sized : tie.After-request-sizes
+module _ (r : tie.After-read_lines-answer) where
+  abbrev sized : tie.After-request_sizes-sizes
   sized = r.before.before.before
 
   abbrev start : tie.Start
@@ -40,25 +40,22 @@ module _ (r : tie.After-read-lines) where
   abbrev text : List ℕ
   text = start.args.text.now
 
-  form_is : r.read-lines.result ≡ form base_scheme text
-  form_is = r.read-lines.ensures.0 ∙ ap (λ (s : List ℕ). check_lines 3 s 1 text Accepted) sized.request-sizes.ensures
+  form_is : r.read_lines-answer.result ≡ form base_scheme text
+  form_is = r.read_lines-answer.ensures.0 ∙ ap (λ (s : List ℕ). check_lines 3 s 1 text Accepted) sized.request_sizes-sizes.ensures
 
-returns : tie.Need-returns
+returns : tie.Need-returns-in_default
 returns c =
-    let w = c.before.before in
-    let v = w.before.before in
-    let r = v.before.before.before in
-    refused_written base_scheme (text r) (broken_answer base_scheme (text r) (form_is r) v.before.match.keys2) v.before.match.keys2
-    v.verdict.ensures (start r).args.out.now w.print-verdict.ensures
+    let r = c.before.before.before.before.before.before.before in
+    refused_written base_scheme (text r) (broken_answer base_scheme (text r) (form_is r) c.in_default.in_default-own.keys2)
+    c.in_default.in_default-own.keys2 c.verdict.ensures (start r).args.out.now c.print_verdict.ensures
 
-sign-request-requires : tie.Need-sign-request-requires
+sign-request-requires : tie.Need-sign_request-requires
 sign-request-requires c κs =
-    let e = c.before.before.before in
-    let r = e.before.before.before in
+    let r = c.before.before.before.before.before in
     let d = replicate {A = ℕ} (total (request_sizes base message_limit)) 0 in
-    let bytes = r.read-lines.ensures.1
-    ∙ ap (λ (s : List ℕ). output_after r.read-lines.result (decoded_lines (length s) (text r)) d) (sized r).request-sizes.ensures in
-    (valid_base, read base_scheme (text r) r.read-lines.new.1.1.1.0 d (form_is r) bytes e.enum_told.given.1, refl, lit≤ tt, (start r).requires)
+    let bytes = r.read_lines-answer.ensures.1
+    ∙ ap (λ (s : List ℕ). output_after r.read_lines-answer.result (decoded_lines (length s) (text r)) d) (sized r).request_sizes-sizes.ensures in
+    (valid_base, read base_scheme (text r) r.read_lines-answer.new.out d (form_is r) bytes c.in-Accepted.is, refl, lit≤ tt, (start r).requires)
 
 pub print_request_spec : {M : Type 1} → statement M
 print_request_spec =
