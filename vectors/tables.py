@@ -67,9 +67,11 @@ def tables():
     yield 'field/specs/Byte.antt', 'table8', listed('table8'), undo(byte)
     for f, n in ((f32, 32), (f48, 48)):
         spec, roots, powers = '%s/specs/Wide%d.antt' % ('field' if n == 32 else 'wide48', n), f.roots(), f.powers()
-        yield spec, 'table%d' % n, listed('table%d' % n), undo(f)
+        # what shows that it is a field, beside the proof
+        shown = 'field/proofs/Wide32.antt' if n == 32 else spec
+        yield shown, 'table%d' % n, listed('table%d' % n), undo(f)
         yield spec, 'y%d' % n, numeral('y%d' % n), roots[:1]
-        yield spec, 'others%d' % n, listed('others%d' % n), roots[1:]
+        yield shown, 'others%d' % n, listed('others%d' % n), roots[1:]
         yield spec, 'powers%d' % n, listed('powers%d' % n), powers
         # the code reads the powers of 32 bits from the table of lifts
         if n == 32:
