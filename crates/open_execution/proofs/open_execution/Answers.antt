@@ -20,8 +20,7 @@ returns-in_default c =
     made_refused
     (open_tests a.shape (length a.key.now) (length a.public.now) (length a.salt.now) (length a.root.now) (length a.first.now)
     (length a.out.now) (length a.work.now))
-    refl c.open-refusal.ensures (opened c.in_default.in_default-own.keys2)
-    (in_order (range_tests a.shape a.e a.hidden a.second) (check_key (scheme_of a.shape) a.public.now a.key.now Accepted))
+    refl c.open-refusal.ensures (opened c.in_default.in_default-own.keys2) (in_order (range_tests a.shape a.e a.hidden a.second) (check_key (scheme_of a.shape) a.public.now a.key.now Accepted))
     (opening (scheme_of a.shape) a.key.now a.public.now a.salt.now a.root.now a.first.now a.e a.second a.hidden) a.out.now a.work.now
 
 pub open_key-requires : goal.open_key-requires
@@ -56,6 +55,4 @@ returns c =
     ∙ ap
     (λ (x : Answer).
     made_after x (opening (scheme_of a.shape) a.key.now a.public.now a.salt.now a.root.now a.first.now a.e a.second a.hidden) a.out.now a.work.now)
-    (sym
-    (passed_at tests (in_order (range_tests a.shape a.e a.hidden a.second) (check_key (scheme_of a.shape) a.public.now a.key.now Accepted))
-    (passes tests refl c.open-refusal.ensures c.in-Accepted.is)))
+    (sym (passed_at tests (in_order (range_tests a.shape a.e a.hidden a.second) (check_key (scheme_of a.shape) a.public.now a.key.now Accepted)) (passes tests refl c.open-refusal.ensures c.in-Accepted.is)))

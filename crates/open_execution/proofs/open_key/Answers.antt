@@ -26,12 +26,7 @@ module _ (S : Shape) (e hidden second : ℕ) {a : Answer} (is : a ≡ in_order (
   ranges : Valid S → second < 2 ^ (8 * S.wide) → Ranges S e second hidden
   ranges v wide =
       let least : S.m2 ≤ second = leb-true _ _ (right 2) in
-      record {
-        execution = ltb-true _ _ (right 0);
-        hidden_shown = ltb-true _ _ (right 1);
-        second_least = omega (arith, least, v.twenty);
-        second_wide = wide;
-      }
+      record { execution = ltb-true _ _ (right 0); hidden_shown = ltb-true _ _ (right 1); second_least = omega (arith, least, v.twenty); second_wide = wide }
 
   -- the key's answer is the call's
   whole : (keyed : Answer) (file out work : List ℕ)

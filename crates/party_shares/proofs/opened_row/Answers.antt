@@ -11,8 +11,7 @@ use Rattle.party_shares.proofs.opened_row.Goals as goal
 pub load-requires : goal.load-requires
 load-requires c =
     let v = c.requires.0 in
-    load_fits v (2 * c.args.shape.m1) (pairs_lent v (replicate 20 0) refl)
-    (le_of_eq (sym (part_long v 2 c.args.tape.now c.requires.5 c.tape_part.ensures)))
+    load_fits v (2 * c.args.shape.m1) (pairs_lent v (replicate 20 0) refl) (le_of_eq (sym (part_long v 2 c.args.tape.now c.requires.5 c.tape_part.ensures)))
 
 pub returns : goal.returns
 returns c =

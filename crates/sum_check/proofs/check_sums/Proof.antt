@@ -100,8 +100,7 @@ pub check_sums_spec : {M : Type 1} → statement M
 check_sums_spec =
     tie.close
     (tie.spec sum-rows-requires (λ c. lit≤ tt) (λ c. lit≤ tt) (λ c. outputs_room c.before.before) (λ c κs. tt)
-    (λ c. omega (arith, (start (summed c.before.before)).requires.0.few)) (λ c. kept (summed c.before.before)) returns
-    (λ c κs. (start (summed c.before)).requires.0)
+    (λ c. omega (arith, (start (summed c.before.before)).requires.0.few)) (λ c. kept (summed c.before.before)) returns (λ c κs. (start (summed c.before)).requires.0)
     (λ c. sym (ap length c.row_sizes.ensures)) (λ c κs. fits c.before 1 (omega arith)) (λ c κs. fits (sized c) 2 (omega arith))
     (λ c κs. fits (sized c.before) 3 (omega arith)) holds-requires (λ c. kept (sums (sized (first c.before.before)))) returns-2
     (λ c. kept (sums (sized (first c.before.before)))) returns-3)

@@ -74,8 +74,7 @@ last_fits c =
 pub true_rows_spec : {M : Type 1} → statement M
 true_rows_spec =
     tie.close
-    (tie.spec invariant-loop decreases-loop loop-holds (λ c. (at_turn c).row_start) (λ c. (at_turn c).row_end)
-    (λ c. (at_turn c).point) (λ c. (at_turn c).row_bytes)
+    (tie.spec invariant-loop decreases-loop loop-holds (λ c. (at_turn c).row_start) (λ c. (at_turn c).row_end) (λ c. (at_turn c).point) (λ c. (at_turn c).row_bytes)
     (λ c. le-add_right _ (m c.before)) (λ c. le-add_right _ (m c.before)) (λ c. as_long (at_turn c).row_room c.loop-k.invariant.1.long)
     (λ c. (at_turn c.before).row_bytes) (λ c. le-add_right _ (m c.before.before)) (λ c. le-add_right _ (m c.before.before))
     (λ c. as_long (at_turn c.before).row_room c.loop-k.invariant.2.long) point-rows-requires
