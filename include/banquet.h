@@ -73,7 +73,7 @@
  * are lent, not of locals that are gone, and a compiler may drop stores to
  * these. tests/residue.c searches the stack and finds
  *
- *   - after public_key and sign: the whole key;
+ *   - after public_key, and when sign or open is refused by 12: half of the key;
  *   - after public_key, sign and open, and when sign or open is refused by 12:
  *     key xor plaintext, which gives the key away;
  *   - after sign and open: seeds of hidden parties, which give it away, too;
@@ -139,10 +139,10 @@ extern "C" {
  */
 #define BANQUET_STACK_PUBLIC_KEY 768
 #define BANQUET_STACK_SIGN 19928
-#define BANQUET_STACK_VERIFY 20968
-#define BANQUET_STACK_OPEN 17848
-#define BANQUET_STACK_VERIFY_OPENING 11896
-#define BANQUET_STACK_VERIFY_CARD 73928
+#define BANQUET_STACK_VERIFY 22344
+#define BANQUET_STACK_OPEN 18232
+#define BANQUET_STACK_VERIFY_OPENING 12376
+#define BANQUET_STACK_VERIFY_CARD 75336
 
 /* Stack that is enough for one call of any kind, with margin. */
 #define BANQUET_STACK_BYTES 131072

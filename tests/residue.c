@@ -70,7 +70,10 @@ static unsigned long places(int kind, size_t n)
     return found;
 }
 
-/* Makes a call and prints what is found after it. For each kind `found` has + if it has to be found whole, and - if nothing of it may be. */
+/*
+ * Makes a call and prints what is found after it. For each kind `found` has + if it has to be found whole, / if PART bytes of it have to be, and - if
+ * nothing of it may be.
+ */
 static int search(int call, uint32_t number, int wiped, const char *found)
 {
     int failed = 0;
@@ -82,7 +85,7 @@ static int search(int call, uint32_t number, int wiped, const char *found)
         const unsigned long whole = places(kind, SECRET), part = places(kind, PART);
 
         printf("  %9lu %3lu", whole, part);
-        if (found[kind] == '+' ? whole == 0 : part > 0)
+        if (found[kind] == '+' ? whole == 0 : found[kind] == '/' ? part == 0 : part > 0)
             failed = 1;
     }
     puts(failed ? "  FAILED" : "");
@@ -146,16 +149,16 @@ int main(void)
     puts("  (whole, 8 bytes)");
     for (wiped = 0; wiped < 2; wiped++) {
         know_secrets(SIGN);
-        failed |= search(PUBLIC_KEY, 0, wiped, wiped ? "----" : "++--");
-        failed |= search(SIGN, 0, wiped, wiped ? "----" : "++-+");
+        failed |= search(PUBLIC_KEY, 0, wiped, wiped ? "----" : "/+--");
+        failed |= search(SIGN, 0, wiped, wiped ? "----" : "-+-+");
         failed |= search(VERIFY, 0, wiped, "----");
         failed |= search(VERIFY_CARD, 0, wiped, "----");
         know_secrets(OPEN);
         failed |= search(OPEN, 0, wiped, wiped ? "----" : "-+-+");
         failed |= search(VERIFY_OPENING, 0, wiped, "----");
         lent.public_key[31] ^= 1;
-        failed |= search(SIGN, BANQUET_REFUSED_WRONG_KEY, wiped, wiped ? "----" : "-+--");
-        failed |= search(OPEN, BANQUET_REFUSED_WRONG_KEY, wiped, wiped ? "----" : "-+--");
+        failed |= search(SIGN, BANQUET_REFUSED_WRONG_KEY, wiped, wiped ? "----" : "/+--");
+        failed |= search(OPEN, BANQUET_REFUSED_WRONG_KEY, wiped, wiped ? "----" : "/+--");
         lent.public_key[31] ^= 1;
     }
     failed |= !wipes_last();
