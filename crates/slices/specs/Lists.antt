@@ -1,11 +1,15 @@
 -- Lists, of bytes for the most part: made from their elements, cut into parts and rows, written into, added, compared.
-use Rattle.std.specs.Prelude.{Bool, true, false, ◌&&◌, List, [], ◌∷◌, ◌++◌, ℕ, zero, suc, ◌+◌, ◌*◌, eqb, length, take, drop}
+use Rattle.std.specs.Prelude.{Bool, true, false, ◌&&◌, Option, Some, None, nat_lt, List, [], ◌∷◌, ◌++◌, ℕ, zero, suc, ◌+◌, ◌*◌, eqb, length, take, drop}
 use Rattle.std.specs.Int.Bits.{bit_xor}
 
 -- a where the test holds, else b
 abbrev pub choose : {A : Type 0} → Bool → A → A → A
 choose true a b = a
 choose false a b = b
+
+-- i if it is below n, where n stands for none
+abbrev pub found : ℕ → ℕ → Option ℕ
+found n i = choose (nat_lt i n) (Some i) None
 
 -- f 0, f 1, .. f (n - 1)
 abbrev pub tab : {A : Type 0} → (ℕ → A) → ℕ → List A
