@@ -89,7 +89,7 @@ abbrev pub sub_word : List ℕ → List ℕ
 sub_word w = tab (λ i. sbox (get_or w i 0)) 4
 
 -- Figure 11, four words at a time: word j of the round key after k is k's word j plus the word before it; the first is k's first plus temp.
--- KeyExpansion.antt has the figure word by word.
+-- proofs/KeyExpansion has the figure word by word.
 abbrev pub next_word : List ℕ → List ℕ → ℕ → List ℕ
 next_word k temp zero = add 4 (word k 0) temp
 next_word k temp (suc j) = add 4 (word k (suc j)) (next_word k temp j)

@@ -48,7 +48,7 @@ use Rattle.circuit.specs.Circuit.{
 }
 use Rattle.circuit.proofs.Sizes.{length_entering_share, length_input_shares, length_output_share, input_shares_bytes, output_share_bytes}
 use Rattle.circuit.proofs.Linear.{input_shares_linear, output_share_linear}
-use Rattle.circuit.proofs.Sound.{Same, IsCircuit}
+use Rattle.circuit.specs.Law.{IsAes, IsCircuit}
 
 -- ---- constants and S-boxes, for the share 1
 
@@ -117,13 +117,10 @@ module _ (plaintext : List ℕ) (bytes : Bytes plaintext) (size : length plainte
     abbrev z' : List ℕ
     z' = drop 40 z
 
-    abbrev IsAes : Type 0
-    IsAes = Same (input_shares plaintext (share 1 key y)) (sbox_inputs key plaintext) (output_share (share 1 key y)) (aes key plaintext)
-
     -- y inverts a list of inputs that is AES's as far as the circuit is AES
     is_aes : (K E : ℕ → List ℕ) → ((n : ℕ) → round_key_share 1 key z n ≡ round_key key n → K n ≡ round_key key n)
         → (expansion_share 1 key z ≡ w → (n : ℕ) → entering_share w plaintext z' n ≡ entering w plaintext n → E n ≡ entering w plaintext n)
-        → ((n : ℕ) → length (E n) ≡ 16) → Inverted 200 (key_inputs K ++ rows E 10) y → IsAes
+        → ((n : ℕ) → length (E n) ≡ 16) → Inverted 200 (key_inputs K ++ rows E 10) y → IsAes plaintext key y
     unfolding expansion_share key_expansion input_shares sbox_inputs output_share aes key_inputs
     is_aes K E κ ε s h =
         let at : (l : ℕ) → l < 200 → get_or z l 0 ≡ sbox (get_or (key_inputs K ++ rows E 10) l 0) = outputs_true 200 (key_inputs K ++ rows E 10) y h in
@@ -139,13 +136,13 @@ module _ (plaintext : List ℕ) (bytes : Bytes plaintext) (size : length plainte
           same_output = ap (λ (u : List ℕ). cipher_share u z') we ∙ cipher_agree w plaintext z' E (ε we) states;
         }
 
-    own : Inverted 200 (input_shares plaintext (share 1 key y)) y → IsAes
+    own : Inverted 200 (input_shares plaintext (share 1 key y)) y → IsAes plaintext key y
     unfolding input_shares
     own =
         is_aes (round_key_share 1 key z) (entering_share (expansion_share 1 key z) (public 1 16 plaintext) z') (λ n e. e)
         (λ we n e. ap₂ (λ (u v : List ℕ). entering_share u v z' n) we (public_one bytes size) ∙ e) (length_entering_share _ _ _)
 
-    true : Inverted 200 (sbox_inputs key plaintext) y → IsAes
+    true : Inverted 200 (sbox_inputs key plaintext) y → IsAes plaintext key y
     unfolding sbox_inputs
     true = is_aes (round_key key) (entering w plaintext) (λ n e. refl) (λ we n e. refl) (length_entering w plaintext)
 

@@ -27,7 +27,7 @@ use Rattle.circuit.proofs.Sizes.{
   even_mansour_output_share_bytes,
 }
 use Rattle.circuit.proofs.Linear.{even_mansour_input_shares_linear, even_mansour_output_share_linear}
-use Rattle.circuit.proofs.Sound.{Same, IsCircuit}
+use Rattle.circuit.specs.Law.{IsEvenMansour, IsCircuit}
 use Rattle.circuit.proofs.Agree.{public_one, outputs_true, entering_agree, cipher_agree}
 
 module _ (aes_key x : List ℕ) (ha : Bytes aes_key) (hx : Bytes x) (size : length x ≡ 16) where
@@ -41,17 +41,12 @@ module _ (aes_key x : List ℕ) (ha : Bytes aes_key) (hx : Bytes x) (size : leng
     abbrev z : List ℕ
     z = sbox_outputs 160 1 y
 
-    abbrev IsEvenMansour : Type 0
-    IsEvenMansour =
-        Same (even_mansour_input_shares w x (share 1 key y)) (even_mansour_inputs aes_key x key)
-        (even_mansour_output_share w (share 1 key y)) (even_mansour aes_key x key)
-
     pe : add 16 (public 1 16 x) key ≡ add 16 x key
     pe = ap (λ (u : List ℕ). add 16 u key) (public_one hx size)
 
     is_even_mansour : (E : ℕ → List ℕ)
         → ((n : ℕ) → entering_share w (add 16 x key) z n ≡ entering w (add 16 x key) n → E n ≡ entering w (add 16 x key) n)
-        → ((n : ℕ) → length (E n) ≡ 16) → Inverted 160 (rows E 10) y → IsEvenMansour
+        → ((n : ℕ) → length (E n) ≡ 16) → Inverted 160 (rows E 10) y → IsEvenMansour aes_key x key y
     unfolding even_mansour_input_shares even_mansour_inputs even_mansour_output_share even_mansour aes
     is_even_mansour E ε s h =
         let states : (n b : ℕ) → n < 10 → b < 16 → get_or z (n * 16 + b) 0 ≡ sbox (get_or (E n) b 0) =
@@ -63,13 +58,13 @@ module _ (aes_key x : List ℕ) (ha : Bytes aes_key) (hx : Bytes x) (size : leng
               (ap (λ (u : List ℕ). cipher_share u z) we ∙ cipher_agree w (add 16 x key) z E ε states);
         }
 
-    own : Inverted 160 (even_mansour_input_shares w x (share 1 key y)) y → IsEvenMansour
+    own : Inverted 160 (even_mansour_input_shares w x (share 1 key y)) y → IsEvenMansour aes_key x key y
     unfolding even_mansour_input_shares
     own =
         is_even_mansour (entering_share (public 1 176 w) (add 16 (public 1 16 x) key) z)
         (λ n e. ap₂ (λ (u p : List ℕ). entering_share u p z n) we pe ∙ e) (length_entering_share _ _ _)
 
-    true : Inverted 160 (even_mansour_inputs aes_key x key) y → IsEvenMansour
+    true : Inverted 160 (even_mansour_inputs aes_key x key) y → IsEvenMansour aes_key x key y
     unfolding even_mansour_inputs
     true = is_even_mansour (entering w (add 16 x key)) (λ n e. refl) (length_entering w (add 16 x key))
 

@@ -17,7 +17,6 @@ use Rattle.circuit.specs.Circuit.{
   Share,
   share,
   party,
-  plus,
   public,
   affine,
   sbox_outputs,
@@ -31,14 +30,8 @@ use Rattle.circuit.specs.Circuit.{
   even_mansour_input_shares,
   even_mansour_output_share,
 }
+use Rattle.circuit.specs.Law.{Linear₁, Linear}
 use Rattle.circuit.proofs.Sizes.{length_round_key_share, length_entering_share}
-
--- a number, and a list of numbers, that depend on a share
-record Linear₁ (f : Share → ℕ) : Type 0 where
-  pub adds₁ : (s t : Share) → f (plus s t) ≡ bit_xor (f s) (f t)
-
-pub record Linear (f : Share → List ℕ) : Type 0 where
-  pub adds : (s t : Share) → f (plus s t) ≡ zip_xor (f s) (f t)
 
 -- ---- numbers
 

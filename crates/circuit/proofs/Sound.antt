@@ -1,34 +1,17 @@
--- What is asked of a circuit over shares for a cipher, and what then follows, for any number of parties: products of inputs and inverses that are
--- all 1 and an output that is the ciphertext show a good key, and a good key with the true inverses has both. Assumes nothing.
+-- What follows from what is asked of a circuit (specs/Law), for any number of parties: products of inputs and inverses that are all 1 and an output
+-- that is the ciphertext show a good key, and a good key with the true inverses has both. Assumes nothing.
 use Rattle.std.specs.Prelude.{◌≡◌, List, map, ℕ, suc, ◌<◌, get_or}
 use Rattle.std.proofs.Common.{sym, ap, ap₂, ◌∙◌, subst, suc-ne-zero}
 use Rattle.std.proofs.Math.ListN.{get_or-map}
 use Rattle.slices.specs.Lists.{sum_xor}
-use Rattle.slices.specs.Bytes.{Bytes, Sized}
+use Rattle.slices.specs.Bytes.{Bytes}
 use Rattle.slices.specs.Sums.{sum_bytes}
 use Rattle.field.specs.Field.{inverse_unique, zero_l}
 use Rattle.field.specs.Byte.{mul8, inverse8, field8}
 use Rattle.aes.specs.Aes.{Good}
 use Rattle.circuit.specs.Circuit.{Share, share, party, Inverted, ProductsOne}
-use Rattle.circuit.proofs.Linear.{Linear, parties_linear}
-
--- a circuit's inputs x and output r are the cipher's
-pub record Same (x x' r r' : List ℕ) : Type 0 where
-  pub same_inputs : x ≡ x'
-  pub same_output : r ≡ r'
-
--- A cipher of m S-boxes takes a key to the S-boxes' inputs `given key` and the output `encrypted key`; a circuit takes a share to the shares
--- `inputs` and `output`. It is linear, its shares have their sizes, and for the whole key it is the cipher where y holds the inverses of the
--- circuit's own inputs, or of the cipher's.
-pub record IsCircuit (m : ℕ) (given encrypted : List ℕ → List ℕ) (inputs output : Share → List ℕ) : Type 0 where
-  pub inputs_linear : Linear inputs
-  pub output_linear : Linear output
-  pub inputs_sized : (s : Share) → Bytes s.key → Sized m (inputs s)
-  pub output_sized : (s : Share) → Bytes s.key → Sized 16 (output s)
-  pub own_inverses : (key y : List ℕ) → Inverted m (inputs (share 1 key y)) y
-      → Same (inputs (share 1 key y)) (given key) (output (share 1 key y)) (encrypted key)
-  pub true_inverses_lem : (key y : List ℕ) → Inverted m (given key) y
-      → Same (inputs (share 1 key y)) (given key) (output (share 1 key y)) (encrypted key)
+use Rattle.circuit.specs.Law.{IsCircuit}
+use Rattle.circuit.proofs.Linear.{parties_linear}
 
 -- the inverses of a list are such a y
 pub map_inverted : (m : ℕ) (x : List ℕ) → Inverted m x (map inverse8 x)

@@ -1,2 +1,3 @@
--- AES over shares: the definitions that contracts cite. What is proved of them stands in proofs/.
+-- AES over shares: the definitions that contracts cite, and what is asked of a circuit (Law). What is proved of them stands in proofs/.
 pub mod Circuit
+pub mod Law

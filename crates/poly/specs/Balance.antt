@@ -1,6 +1,6 @@
 -- The product check of document 01, "One execution", over any field: m1 pairs of polynomials S_j and T_j through m2 inputs and inverses
 -- each, the inputs weighted by the first challenge r (01: first draws), against one polynomial P at the second challenge R (01: second
--- draw). `ProductCheck` has its theorems.
+-- draw). proofs/ProductCheck has its theorems.
 use Rattle.std.specs.Prelude.{◌≡◌, ◌≢◌, List, ℕ, suc, ◌*◌, ◌≤◌, ◌<◌, ltb}
 use Rattle.poly.specs.Field.{Ops}
 use Rattle.poly.specs.Sum.{sum}

@@ -4,7 +4,7 @@ use Rattle.slices.specs.Bytes.{Sized}
 use Rattle.field.specs.Field.{IsField}
 use Rattle.field.specs.Lift.{IsEmbedding}
 use Rattle.field.specs.Byte.{mul8}
-use Rattle.circuit.proofs.Sound.{IsCircuit}
+use Rattle.circuit.specs.Law.{IsCircuit}
 use Rattle.banquet.specs.Shape.{sboxes}
 use Rattle.banquet.specs.Scheme.{Scheme, wide_mul, lifted}
 

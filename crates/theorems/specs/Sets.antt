@@ -6,7 +6,7 @@ use Rattle.field.specs.WideField.{WideField}
 use Rattle.field.proofs.Wide32.{wide32}
 use Rattle.wide48.specs.Wide48.{wide48}
 use Rattle.shake.proofs.Laws.{sized_shake}
-use Rattle.circuit.proofs.Sound.{IsCircuit}
+use Rattle.circuit.specs.Law.{IsCircuit}
 use Rattle.circuit.proofs.Agree.{aes_circuit_lem}
 use Rattle.circuit.proofs.EvenMansour.{even_mansour_circuit_lem}
 use Rattle.banquet.specs.declared.Shape.{Shape}

@@ -15,7 +15,8 @@ use Rattle.poly.specs.Field.{BinaryField}
 use Rattle.poly.specs.Index.{at, at_same, at_other, at_cases}
 use Rattle.poly.specs.Sum.{sum, sum_cong, sum_add, sum_at}
 use Rattle.circuit.specs.Circuit.{Share, share, party}
-use Rattle.circuit.proofs.Linear.{Linear, parties_linear}
+use Rattle.circuit.specs.Law.{Linear}
+use Rattle.circuit.proofs.Linear.{parties_linear}
 use Rattle.banquet.specs.Shape.{sboxes, sbox_at, tape_sizes}
 use Rattle.banquet.specs.Scheme.{Scheme, wide_ops, lifted, Wide}
 use Rattle.banquet.specs.Hash.{commitment, tape}
