@@ -2,13 +2,11 @@
 use Rattle.std.specs.Prelude.{◌≡◌, refl, ◌≢◌, ◌⊎◌, false, ◌&&◌, ◌||◌, List, ℕ, ◌≤◌, ◌<◌, eqb, leb, length, take, drop}
 use Rattle.std.proofs.Common.{sym, ◌∙◌, ap, inl, inr, true≢false, arith, take_at}
 use borrow.Author.Tests.{ne_eqb, le-leb, lt-leb}
-use Rattle.banquet.specs.declared.Answer.{Answer}
-use Rattle.banquet.specs.declared.Answer.TheVariants.{Accepted}
-use Rattle.banquet.specs.Answer.{verdict_of, clears, cleared, work_after, output_after}
+use Rattle.banquet.specs.Answer.{Answer, accepted, verdict_of, clears, cleared, work_after, output_after}
 use Rattle.banquet.specs.Calls.{written, checked, made, written_after, checked_after, made_after}
 
 -- accepted, the output begins with the file
-pub output_begins : (n : ℕ) {answer : Answer} {file : List ℕ} (output : List ℕ) → length file ≡ n → answer ≡ Accepted
+pub output_begins : (n : ℕ) {answer : Answer} {file : List ℕ} (output : List ℕ) → length file ≡ n → answer ≡ accepted
     → take n (output_after answer file output) ≡ file
 unfolding output_after
 output_begins n {answer} {file} output size acc =
@@ -51,6 +49,6 @@ module _ (answer : Answer) where
     pub made_untouched : (file output work : List ℕ) → made_after answer file output work ≡ made answer output work
     made_untouched file output work = rw (output_untouched refuses file output, work_untouched work) refl
 
-pub work_cleared_on_success : (work : List ℕ) → work_after Accepted work ≡ cleared work
+pub work_cleared_on_success : (work : List ℕ) → work_after accepted work ≡ cleared work
 unfolding work_after
 work_cleared_on_success work = refl

@@ -2,13 +2,12 @@
 use Rattle.std.specs.Prelude.{◌≡◌, Bool, true, ◌&&◌, List, ℕ, length}
 use Rattle.std.proofs.Math.Path.{refl}
 use Rattle.std.proofs.Common.{subst, ◌∙◌}
-use Rattle.std.proofs.Math.Dec.{eqb, lit<}
+use Rattle.std.proofs.Math.Dec.{eqb}
 use borrow.Author.Tests.{eqb-true, ltb-true, leb-true, eq-eqb, lt-ltb, le-leb}
 use Rattle.slices.specs.Tests.{and_split, and_join}
 use Rattle.slices.specs.Compare.{same_eq, same_refl}
-use Rattle.banquet.specs.declared.Answer.TheVariants.{Accepted}
 use Rattle.banquet.specs.Scheme.{Scheme}
-use Rattle.banquet.specs.Answer.{Test}
+use Rattle.banquet.specs.Answer.{accepted, Test}
 use Rattle.banquet.specs.Execution.{Committed, Challenge, opened_a, opened_b}
 use Rattle.banquet.specs.Opening.{
   range_tests,
@@ -98,14 +97,14 @@ module _ (𝓢 : Scheme) (public_key t : List ℕ) where
         (and_join _ _ (all_join m1 _ (λ j l. eq-eqb _ _ (p.opens_a j l))) (all_join m1 _ (λ j l. eq-eqb _ _ (p.opens_b j l)))))
 
   module _ (h : ℕ) (q : List ℕ) where
-    check_split : check_opening 𝓢 public_key t h q ≡ Accepted → TranscriptHolds 𝓢 F public_key t h (shown_seed 𝓢 t h q)
+    check_split : check_opening 𝓢 public_key t h q ≡ accepted → TranscriptHolds 𝓢 F public_key t h (shown_seed 𝓢 t h q)
     unfolding check_opening check_parties check_shares
     check_split e =
-        let ranges = all_pass (range_tests 𝓢.shape (execution_of 𝓢 t) h (second_of 𝓢 t)) _ refl e in
-        let commitments = each_split parties _ _ _ (λ k. lit< tt) ranges.1 in
-        let shares = each_split parties _ _ _ (λ k. lit< tt) commitments.1 in
-        let o = require_split _ _ _ (lit< tt) shares.1 in
-        let p = require_split _ _ _ (lit< tt) o.1 in
+        let ranges = all_pass (range_tests 𝓢.shape (execution_of 𝓢 t) h (second_of 𝓢 t)) _ e in
+        let commitments = each_split parties _ _ _ ranges.1 in
+        let shares = each_split parties _ _ _ commitments.1 in
+        let o = require_split _ _ _ shares.1 in
+        let p = require_split _ _ _ o.1 in
         record {
           in_range = ltb-true _ _ (ranges.0 0);
           hides = ltb-true _ _ (ranges.0 1);
@@ -115,7 +114,7 @@ module _ (𝓢 : Scheme) (public_key t : List ℕ) where
           product = eqb-true _ _ p.0;
         }
 
-    check_join : TranscriptHolds 𝓢 F public_key t h (shown_seed 𝓢 t h q) → check_opening 𝓢 public_key t h q ≡ Accepted
+    check_join : TranscriptHolds 𝓢 F public_key t h (shown_seed 𝓢 t h q) → check_opening 𝓢 public_key t h q ≡ accepted
     unfolding check_opening check_parties check_shares
     check_join o =
         passed (range_tests 𝓢.shape (execution_of 𝓢 t) h (second_of 𝓢 t)) _
@@ -128,10 +127,10 @@ module _ (𝓢 : Scheme) (public_key o work : List ℕ) where
   abbrev tests : List Test
   tests = verify_opening_tests 𝓢.shape (length public_key) (length o) (length work)
 
-  pub opening_holds : verify_opening_answer 𝓢 public_key o work ≡ Accepted → OpeningHolds 𝓢 (figures_of 𝓢.shape) public_key o work
+  pub opening_holds : verify_opening_answer 𝓢 public_key o work ≡ accepted → OpeningHolds 𝓢 (figures_of 𝓢.shape) public_key o work
   unfolding verify_opening_answer
   opening_holds e =
-      let lengths = all_pass tests _ refl e in
+      let lengths = all_pass tests _ e in
       record {
         key_size = eqb-true _ _ (lengths.0 0);
         size = eqb-true _ _ (lengths.0 1);
@@ -139,7 +138,7 @@ module _ (𝓢 : Scheme) (public_key o work : List ℕ) where
         transcript_holds = check_split 𝓢 public_key (transcript_of 𝓢 o) _ _ lengths.1;
       }
 
-  pub holds_opening : OpeningHolds 𝓢 (figures_of 𝓢.shape) public_key o work → verify_opening_answer 𝓢 public_key o work ≡ Accepted
+  pub holds_opening : OpeningHolds 𝓢 (figures_of 𝓢.shape) public_key o work → verify_opening_answer 𝓢 public_key o work ≡ accepted
   unfolding verify_opening_answer
   holds_opening h =
       passed tests _ (eq-eqb _ _ h.key_size and eq-eqb _ _ h.size and le-leb _ _ h.work_size and tt)

@@ -1,16 +1,14 @@
 -- A signature is accepted exactly where every check holds, and what is too long is refused, as specs/SignatureChecks states it. Assumes nothing.
-use Rattle.std.specs.Prelude.{◌≡◌, false, ℕ, eqb, leb, length}
+use Rattle.std.specs.Prelude.{◌≡◌, Err, false, ℕ, eqb, leb, length}
 use Rattle.std.proofs.Math.Path.{refl, ap, subst}
 use Rattle.std.proofs.Common.{sym, ◌∙◌}
 use mathlib.Core.List.{List, [], ◌∷◌, ◌++◌}
-use Rattle.std.proofs.Math.Dec.{lit<}
 use borrow.Author.Tests.{eqb-true, leb-true, eq-eqb, ne_eqb, le-leb, lt-leb}
 use Rattle.slices.specs.Compare.{same_eq, same_refl}
-use Rattle.banquet.specs.declared.Answer.{Answer}
-use Rattle.banquet.specs.declared.Answer.TheVariants.{Accepted, PublicKeyLength, MessageLength, FileLength, WorkLength}
+use Rattle.banquet.specs.declared.Refusal.TheVariants.{PublicKeyLength, MessageLength, FileLength, WorkLength}
 use Rattle.banquet.specs.Shape.{message_limit, work_length, public_key_length, signature_length}
 use Rattle.banquet.specs.Scheme.{Scheme}
-use Rattle.banquet.specs.Answer.{verdict_of, Test, require, in_order, clears}
+use Rattle.banquet.specs.Answer.{Answer, accepted, verdict_of_refusal, Test, require, in_order, clears}
 use Rattle.banquet.specs.Signature.{signature_salt, signature_h1, signature_h3, frame_of, frame_holds, signature, check_signature}
 use Rattle.banquet.specs.Calls.{verify_tests, checked, checked_after, sign_answer, verify_answer, verify}
 use Rattle.banquet.specs.Figures.{Figures, figures_of}
@@ -24,15 +22,15 @@ module _ (𝓢 : Scheme) (public_key message salt h1 h3 : List ℕ) (frames : �
   abbrev Holds : Type 0
   Holds = FramesHold 𝓢 (figures_of 𝓢.shape) public_key message salt h1 h3 frames
 
-  frames_split : check_signature 𝓢 public_key message salt h1 h3 frames ≡ Accepted → Holds
+  frames_split : check_signature 𝓢 public_key message salt h1 h3 frames ≡ accepted → Holds
   unfolding check_signature frame_holds
   frames_split acc =
-      let a = each_split 𝓢.shape.executions _ _ _ (λ k. lit< tt) acc in
-      let b = require_split _ _ _ (lit< tt) a.1 in
-      let c = require_split _ _ _ (lit< tt) b.1 in
+      let a = each_split 𝓢.shape.executions _ _ _ acc in
+      let b = require_split _ _ _ a.1 in
+      let c = require_split _ _ _ b.1 in
       record { product = λ e l. eqb-true _ _ (a.0 e l); first = same_eq _ _ b.0; third = same_eq _ _ c.0 }
 
-  frames_join : Holds → check_signature 𝓢 public_key message salt h1 h3 frames ≡ Accepted
+  frames_join : Holds → check_signature 𝓢 public_key message salt h1 h3 frames ≡ accepted
   unfolding check_signature frame_holds
   frames_join h =
       each_join 𝓢.shape.executions _ _ _ (λ e l. eq-eqb _ _ (h.product e l))
@@ -42,11 +40,11 @@ module _ (𝓢 : Scheme) (public_key message s work : List ℕ) where
   abbrev tests : List Test
   tests = verify_tests 𝓢.shape (length public_key) (length message) (length s) (length work)
 
-  pub signature_holds : verify_answer 𝓢 public_key message s work ≡ Accepted
+  pub signature_holds : verify_answer 𝓢 public_key message s work ≡ accepted
       → SignatureHolds 𝓢 (figures_of 𝓢.shape) public_key message s work
   unfolding verify_answer
   signature_holds acc =
-      let lengths = all_pass tests _ refl acc in
+      let lengths = all_pass tests _ acc in
       record {
         key_size = eqb-true _ _ (lengths.0 0);
         message_size = leb-true _ _ (lengths.0 1);
@@ -55,7 +53,7 @@ module _ (𝓢 : Scheme) (public_key message s work : List ℕ) where
         frames_hold = frames_split 𝓢 public_key message _ _ _ _ lengths.1;
       }
 
-  pub holds_signature : SignatureHolds 𝓢 (figures_of 𝓢.shape) public_key message s work → verify_answer 𝓢 public_key message s work ≡ Accepted
+  pub holds_signature : SignatureHolds 𝓢 (figures_of 𝓢.shape) public_key message s work → verify_answer 𝓢 public_key message s work ≡ accepted
   unfolding verify_answer
   holds_signature h =
       passed tests _
@@ -64,12 +62,12 @@ module _ (𝓢 : Scheme) (public_key message s work : List ℕ) where
 
   -- those before a test pass, and it fails
   refused : (before : List Test) (t : Test) (behind : List Test) → before ++ t ∷ behind ≡ tests → All Pass before → t.0 ≡ false
-      → clears (verdict_of t.1) ≡ false → verify 𝓢 public_key message s work ≡ checked t.1 work
+      → clears (verdict_of_refusal t.1) ≡ false → verify 𝓢 public_key message s work ≡ checked (Err t.1) work
   unfolding verify_answer
   refused before t behind is p f l =
       let rest = check_signature 𝓢 public_key message (signature_salt s) (signature_h1 s) (signature_h3 s) (frame_of 𝓢 s) in
       ap (λ (a : Answer). checked_after a work) (ap (λ (ts : List Test). in_order ts rest) (sym is) ∙ refused_at before t behind rest p f)
-      ∙ checked_untouched t.1 l work
+      ∙ checked_untouched (Err t.1) l work
 
 module _ (𝓢 : Scheme) {F : Figures} (are : figures_of 𝓢.shape ≡ F) where
   pub signature_checked_lem : SignatureChecked 𝓢 F
@@ -102,7 +100,7 @@ module _ (𝓢 : Scheme) {F : Figures} (are : figures_of 𝓢.shape ≡ F) where
       subst (MessageNotSigned 𝓢) are
       (λ key public_key message salt seeds output work k p m.
       rw (eq-eqb (length key) 16 k, eq-eqb (length public_key) (public_key_length 𝓢.shape) p, lt-leb (length message) message_limit m)
-      (made_untouched MessageLength refl (signature 𝓢 key public_key message salt seeds) output work))
+      (made_untouched (Err MessageLength) refl (signature 𝓢 key public_key message salt seeds) output work))
 
   pub length_refused : LengthRefused 𝓢 F
   length_refused =

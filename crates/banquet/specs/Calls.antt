@@ -3,17 +3,7 @@
 -- hold. The slices lent for reading stay as they are.
 use Rattle.std.specs.Prelude.{List, [], ◌∷◌, ℕ, eqb, leb, length}
 use Rattle.banquet.specs.declared.Shape.{Shape}
-use Rattle.banquet.specs.declared.Answer.{Answer}
-use Rattle.banquet.specs.declared.Answer.TheVariants.{
-  Accepted,
-  KeyLength,
-  PublicKeyLength,
-  MessageLength,
-  SaltLength,
-  SeedLength,
-  FileLength,
-  WorkLength,
-}
+use Rattle.banquet.specs.declared.Refusal.TheVariants.{KeyLength, PublicKeyLength, MessageLength, SaltLength, SeedLength, FileLength, WorkLength}
 use Rattle.banquet.specs.Shape.{
   message_limit,
   work_length,
@@ -24,7 +14,7 @@ use Rattle.banquet.specs.Shape.{
   opening_length,
 }
 use Rattle.banquet.specs.Scheme.{Scheme}
-use Rattle.banquet.specs.Answer.{Test, in_order, work_after, output_after}
+use Rattle.banquet.specs.Answer.{Answer, accepted, Test, in_order, work_after, output_after}
 use Rattle.banquet.specs.Key.{public_key_of, check_inputs, check_key}
 use Rattle.banquet.specs.Opening.{range_tests, transcript_of, hidden_of, siblings_of, check_opening, opening}
 use Rattle.banquet.specs.Signature.{signature_salt, signature_h1, signature_h3, frame_of, signature, check_signature}
@@ -99,7 +89,7 @@ module _ (𝓢 : Scheme) where
   module _ (key plaintext output : List ℕ) where
     unfoldable pub public_key_answer : Answer
     public_key_answer =
-        in_order (public_key_tests 𝓢.shape (length key) (length plaintext) (length output)) (check_inputs 𝓢 plaintext key Accepted)
+        in_order (public_key_tests 𝓢.shape (length key) (length plaintext) (length output)) (check_inputs 𝓢 plaintext key accepted)
 
     abbrev pub make_public_key : Written
     make_public_key = written_after public_key_answer (public_key_of 𝓢 key plaintext) output
@@ -111,7 +101,7 @@ module _ (𝓢 : Scheme) where
     sign_answer =
         in_order
         (sign_tests 𝓢.shape (length key) (length public_key) (length message) (length salt) (length seeds) (length output) (length work))
-        (check_key 𝓢 public_key key Accepted)
+        (check_key 𝓢 public_key key accepted)
 
     abbrev pub sign : Made
     sign = made_after sign_answer (signature 𝓢 key public_key message salt seeds) output work
@@ -134,7 +124,7 @@ module _ (𝓢 : Scheme) where
     open_answer =
         in_order
         (open_tests 𝓢.shape (length key) (length public_key) (length salt) (length root) (length first_bytes) (length output) (length work))
-        (in_order (range_tests 𝓢.shape e hidden R) (check_key 𝓢 public_key key Accepted))
+        (in_order (range_tests 𝓢.shape e hidden R) (check_key 𝓢 public_key key accepted))
 
     abbrev pub open_execution : Made
     open_execution = made_after open_answer (opening 𝓢 key public_key salt root first_bytes e R hidden) output work

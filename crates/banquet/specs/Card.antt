@@ -1,17 +1,17 @@
 -- Card text: "lower-case hexadecimal, one frame a line, each line ended by byte 0x0A: public key, message (may be empty, at most 65,536 digits), the
 -- 96 head bytes, 41 frames; then nothing. It prints `accepted`, or `refused`, number, place, with single spaces and a line end."
-use Rattle.std.specs.Prelude.{◌≡◌, refl, Bool, true, false, ◌&&◌, List, [], ◌∷◌, ◌++◌, ℕ, zero, suc, ◌+◌, ◌-◌, ◌*◌, ◌/◌, ◌%◌, eqb, ltb, leb, length, take, drop, replicate}
+use Rattle.std.specs.Prelude.{◌≡◌, refl, Err, Bool, true, false, ◌&&◌, List, [], ◌∷◌, ◌++◌, length, take, drop, replicate}
+use Rattle.std.specs.Prelude.{ℕ, zero, suc, ◌+◌, ◌-◌, ◌*◌, ◌/◌, ◌%◌, eqb, ltb, leb}
 use Rattle.slices.specs.Lists.{choose}
 use Rattle.slices.specs.Layout.{total}
 use Rattle.banquet.specs.declared.Shape.{Shape}
 use Rattle.banquet.specs.declared.Symbol.{Symbol}
 use Rattle.banquet.specs.declared.Symbol.TheVariants.{Value, LineEnd, Other}
 use Rattle.banquet.specs.declared.Verdict.{Verdict}
-use Rattle.banquet.specs.declared.Answer.{Answer}
-use Rattle.banquet.specs.declared.Answer.TheVariants.{TextForm}
+use Rattle.banquet.specs.declared.Refusal.TheVariants.{TextForm}
 use Rattle.banquet.specs.Shape.{message_limit, work_length, public_key_length, head_length, frame_sizes}
 use Rattle.banquet.specs.Scheme.{Scheme}
-use Rattle.banquet.specs.Answer.{require, verdict_of}
+use Rattle.banquet.specs.Answer.{Answer, require, verdict_of}
 use Rattle.banquet.specs.Calls.{Checked, checked_after, verify_answer}
 
 -- ---- digits
@@ -103,7 +103,7 @@ check_lines message (size ∷ sizes) n text rest =
     require (is_line (eqb n message) size text) (TextForm n) (check_lines message sizes (suc n) (after_line text) rest)
 
 -- a text that is at its end where line n is due is bad at line n
-pub missing_line : (message size : ℕ) (sizes : List ℕ) (n : ℕ) (rest : Answer) → check_lines message (size ∷ sizes) n [] rest ≡ TextForm n
+pub missing_line : (message size : ℕ) (sizes : List ℕ) (n : ℕ) (rest : Answer) → check_lines message (size ∷ sizes) n [] rest ≡ Err (TextForm n)
 unfolding check_lines is_line line_of require
 missing_line message size sizes n rest = refl
 

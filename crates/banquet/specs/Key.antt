@@ -2,11 +2,10 @@
 use Rattle.std.specs.Prelude.{List, ◌++◌, ℕ, eqb, take, drop}
 use Rattle.slices.specs.Lists.{same}
 use Rattle.aes.specs.Aes.{first_zero}
-use Rattle.banquet.specs.declared.Answer.{Answer}
-use Rattle.banquet.specs.declared.Answer.TheVariants.{ZeroInput, WrongKey}
+use Rattle.banquet.specs.declared.Refusal.TheVariants.{ZeroInput, WrongKey}
 use Rattle.banquet.specs.Shape.{sboxes}
 use Rattle.banquet.specs.Scheme.{Scheme}
-use Rattle.banquet.specs.Answer.{require}
+use Rattle.banquet.specs.Answer.{Answer, require}
 
 module _ (𝓢 : Scheme) where
   -- "public key (plaintext 16 bytes, ciphertext 16 bytes)"

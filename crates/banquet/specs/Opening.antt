@@ -5,19 +5,10 @@ use Rattle.slices.specs.Numbers.{number, bytes_of, number_at, numbers}
 use Rattle.slices.specs.Layout.{field, total, layout}
 use Rattle.poly.specs.Sum.{sum}
 use Rattle.banquet.specs.declared.Shape.{Shape}
-use Rattle.banquet.specs.declared.Answer.{Answer}
-use Rattle.banquet.specs.declared.Answer.TheVariants.{
-  Accepted,
-  ExecutionRange,
-  HiddenPartyRange,
-  SecondChallengeRange,
-  CommitmentDiffers,
-  ShareDiffers,
-  ProductDiffers,
-}
+use Rattle.banquet.specs.declared.Refusal.TheVariants.{ExecutionRange, HiddenPartyRange, SecondChallengeRange, CommitmentDiffers, ShareDiffers, ProductDiffers}
 use Rattle.banquet.specs.Shape.{transcript_sizes}
 use Rattle.banquet.specs.Scheme.{Scheme, wide_ops, wide_mul}
-use Rattle.banquet.specs.Answer.{Test, in_order, each, all}
+use Rattle.banquet.specs.Answer.{Answer, accepted, Test, in_order, each, all}
 use Rattle.banquet.specs.Hash.{commitment, tape}
 use Rattle.banquet.specs.Tree.{sibling_seeds, shown_leaves, seed_at}
 use Rattle.banquet.specs.Key.{front_of, ciphertext_of}
@@ -139,7 +130,7 @@ module _ (𝓢 : Scheme) where
     check_shares hidden seed_of =
         each parties 0 (λ i. eqb i hidden || shares_hold i (seed_of i)) ShareDiffers
         (in_order
-        ((outputs_hold, ShareDiffers parties) ∷ (product_holds transcript, ProductDiffers (execution_of transcript)) ∷ []) Accepted)
+        ((outputs_hold, ShareDiffers parties) ∷ (product_holds transcript, ProductDiffers (execution_of transcript)) ∷ []) accepted)
 
     -- Number 13, and then those.
     unfoldable pub check_parties : ℕ → (ℕ → List ℕ) → Answer

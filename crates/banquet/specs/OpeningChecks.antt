@@ -2,7 +2,7 @@
 use Rattle.std.specs.Prelude.{◌≡◌, ◌≢◌, List, ℕ, ◌≤◌, ◌<◌, length, drop}
 use Rattle.slices.specs.Lists.{sum_xor}
 use Rattle.poly.specs.Sum.{sum}
-use Rattle.banquet.specs.declared.Answer.TheVariants.{Accepted}
+use Rattle.banquet.specs.Answer.{accepted}
 use Rattle.banquet.specs.Shape.{work_length}
 use Rattle.banquet.specs.Scheme.{Scheme, wide_ops, wide_mul}
 use Rattle.banquet.specs.Hash.{commitment}
@@ -65,4 +65,4 @@ module _ (𝓢 : Scheme) (F : Figures) (public_key o work : List ℕ) where
 
 abbrev pub OpeningChecked : Scheme → Figures → Type 0
 OpeningChecked 𝓢 F =
-    (public_key o work : List ℕ) → ((verify_opening 𝓢 public_key o work).answer ≡ Accepted) ⇔ OpeningHolds 𝓢 F public_key o work
+    (public_key o work : List ℕ) → ((verify_opening 𝓢 public_key o work).answer ≡ accepted) ⇔ OpeningHolds 𝓢 F public_key o work

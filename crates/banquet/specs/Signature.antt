@@ -6,11 +6,10 @@ use Rattle.slices.specs.Numbers.{number, bytes_of, number_at, numbers}
 use Rattle.slices.specs.Layout.{field, total, layout}
 use Rattle.poly.specs.Index.{at}
 use Rattle.poly.specs.Sum.{sum}
-use Rattle.banquet.specs.declared.Answer.{Answer}
-use Rattle.banquet.specs.declared.Answer.TheVariants.{Accepted, ProductDiffers, FirstHashDiffers, ThirdHashDiffers}
+use Rattle.banquet.specs.declared.Refusal.TheVariants.{ProductDiffers, FirstHashDiffers, ThirdHashDiffers}
 use Rattle.banquet.specs.Shape.{head_sizes, head_length, frame_sizes, signature_length}
 use Rattle.banquet.specs.Scheme.{Scheme, wide_ops, wide_mul}
-use Rattle.banquet.specs.Answer.{Test, in_order, each}
+use Rattle.banquet.specs.Answer.{Answer, accepted, Test, in_order, each}
 use Rattle.banquet.specs.Hash.{
   commitment,
   tape,
@@ -238,4 +237,4 @@ module _ (𝓢 : Scheme) where
 
     -- Number 15, and then those.
     unfoldable pub check_signature : Answer
-    check_signature = each executions 0 (λ e. frame_holds (frames e)) ProductDiffers (in_order hash_tests Accepted)
+    check_signature = each executions 0 (λ e. frame_holds (frames e)) ProductDiffers (in_order hash_tests accepted)

@@ -1,8 +1,9 @@
 -- A signature is accepted exactly where every check holds; which message is too long to be signed or checked. Assumes nothing.
-use Rattle.std.specs.Prelude.{◌≡◌, ◌≢◌, ℕ, ◌≤◌, ◌<◌, length}
+use Rattle.std.specs.Prelude.{◌≡◌, ◌≢◌, Err, ℕ, ◌≤◌, ◌<◌, length}
 use mathlib.Core.List.{List}
 use Rattle.poly.specs.Sum.{sum}
-use Rattle.banquet.specs.declared.Answer.TheVariants.{Accepted, MessageLength, FileLength}
+use Rattle.banquet.specs.declared.Refusal.TheVariants.{MessageLength, FileLength}
+use Rattle.banquet.specs.Answer.{accepted}
 use Rattle.banquet.specs.Shape.{message_limit, work_length}
 use Rattle.banquet.specs.Scheme.{Scheme, wide_ops, wide_mul}
 use Rattle.banquet.specs.Signature.{signature_salt, signature_h1, signature_h3, frame_of, frame_c, frame_a, frame_b, recomputed_h1, recomputed_h3}
@@ -31,23 +32,23 @@ module _ (𝓢 : Scheme) (F : Figures) where
   -- "a seal is accepted only if every check holds", and if they all hold
   abbrev pub SignatureChecked : Type 0
   SignatureChecked =
-      (public_key message s work : List ℕ) → ((verify 𝓢 public_key message s work).answer ≡ Accepted) ⇔ SignatureHolds 𝓢 F public_key message s work
+      (public_key message s work : List ℕ) → ((verify 𝓢 public_key message s work).answer ≡ accepted) ⇔ SignatureHolds 𝓢 F public_key message s work
 
   -- "The message is over 32,768 bytes.": refused as 3, whatever its bytes are, and the work slice stays as it was.
   abbrev pub MessageRefused : Type 0
   MessageRefused =
       (public_key message s work : List ℕ) → length public_key ≡ F.public_key → message_limit < length message
-      → verify 𝓢 public_key message s work ≡ checked MessageLength work
+      → verify 𝓢 public_key message s work ≡ checked (Err MessageLength) work
 
   -- The same of signing: with a key and a public key of their lengths it refuses such a message as 3, whatever the message's bytes, the salt, the seeds
   -- and the slices are, and leaves both slices as they were.
   abbrev pub MessageNotSigned : Type 0
   MessageNotSigned =
       (key public_key message salt seeds output work : List ℕ) → length key ≡ 16 → length public_key ≡ F.public_key → message_limit < length message
-      → sign 𝓢 key public_key message salt seeds output work ≡ made MessageLength output work
+      → sign 𝓢 key public_key message salt seeds output work ≡ made (Err MessageLength) output work
 
   -- "a seal .. to be checked hasn't exactly its length": one that was cut short or lengthened is refused as 6.
   abbrev pub LengthRefused : Type 0
   LengthRefused =
       (public_key message s work : List ℕ) → length public_key ≡ F.public_key → length message ≤ message_limit → length s ≢ F.signature
-      → verify 𝓢 public_key message s work ≡ checked FileLength work
+      → verify 𝓢 public_key message s work ≡ checked (Err FileLength) work

@@ -7,10 +7,9 @@ pub const MESSAGE_LIMIT: usize = 32768;
 // "The work slice .. is under 65,536 bytes."
 pub const WORK_LENGTH: usize = 65536;
 
-// The answer of a call: accepted, or the refusal that applies first. specs/Answer.antt has the number and the place of each.
-#[derive(Clone, Copy)]
-pub enum Answer {
-    Accepted,
+// Why a call refuses; specs/Answer.antt has the number and the place of each.
+#[derive(Clone, Copy, PartialEq, Eq, Debug)]
+pub enum Refusal {
     KeyLength,
     PublicKeyLength,
     MessageLength,
@@ -30,6 +29,9 @@ pub enum Answer {
     ThirdHashDiffers,
     TextForm(u8),
 }
+
+// The answer of a call: accepted, or the refusal that applies first.
+pub type Answer = Result<(), Refusal>;
 
 // What the papers call an answer's number and place; 0 and 0 for accepted.
 #[derive(Clone, Copy)]
