@@ -35,14 +35,12 @@ pub fn mul(bits: u32, low: u64, a: u64, b: u64) -> u64
     let mut sum: u64 = 0;
     let mut x = a % end;
     let mut rest = b;
-    let mut left = bits;
-    while left > 0 {
+    for _ in 0..bits {
         if rest % 2 == 1 {
-            sum = sum ^ x;
+            sum ^= x;
         }
         x = step(bits, end, low, x);
-        rest = rest / 2;
-        left = left - 1;
+        rest /= 2;
     }
     sum
 }
