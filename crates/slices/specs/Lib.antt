@@ -8,3 +8,4 @@ pub mod Sums
 pub mod Numbers
 pub mod Layout
 pub mod Compare
+pub mod Found
