@@ -1,7 +1,5 @@
 -- What a function is told of a `[u8; n]` by value (`c.good`, and `.ok` of a call): its elements are bytes. Assumes nothing.
-use mathlib.Core.List.{List, [], ◌∷◌}
-use Prim.Native.Nat.{ℕ}
-use mir.Syntax.{w8}
+use Rattle.std.proofs.Common.{List, [], ◌∷◌, ℕ, w8}
 use mir.Val.{Val}
 use denote.Shadow.{shadow}
 use denote.Laws.{Is}

@@ -1,9 +1,5 @@
 -- Counts: what fits a byte or a word, bounds that are handed on, and the turns of a loop. Assumes nothing.
-use mathlib.Core.Path.{◌≡◌}
-use Prim.Native.Nat.{ℕ, ◌+◌, ◌-◌, ◌/◌, ◌^◌, ◌≤◌, ◌<◌}
-use native.Mathlib.Omega.{arith}
-use mir.Syntax.{w8, w64}
-use mir.Val.{Fits}
+use Rattle.std.proofs.Common.{◌≡◌, ℕ, ◌+◌, ◌-◌, ◌/◌, ◌^◌, ◌≤◌, ◌<◌, arith, w8, w64, Fits}
 
 pub in_byte : {n k : ℕ} → n < k → k ≤ 2 ^ 8 → Fits w8 n
 in_byte h k = omega (arith, h, k)

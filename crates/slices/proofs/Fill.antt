@@ -1,11 +1,6 @@
 -- A loop that stores f i at each index i of a slice: what the slice holds after i turns, for any f. Assumes nothing.
-use mathlib.Core.Path.{◌≡◌, refl, ap, ◌∙◌}
-use mathlib.Core.List.{List, ◌++◌, append-nil}
-use Prim.Native.Nat.{ℕ, suc, ◌+◌, ◌<◌, ◌≤◌}
-use native.Mathlib.Numerals.{add-one}
-use native.Mathlib.Omega.{arith}
-use lib.ListN.{length, drop, get_or, set, length-set}
-use lib.Seq.{drop-cons, drop-length, set_at, get_or_at}
+use Rattle.std.proofs.Common.{◌≡◌, refl, ap, ◌∙◌, List, ◌++◌, append-nil, ℕ, suc, ◌+◌, ◌<◌, ◌≤◌, add-one, arith, length, drop, get_or, set, length-set, drop-cons}
+use Rattle.std.proofs.Math.Seq.{drop-length, set_at, get_or_at}
 use Rattle.slices.specs.Lists.{tab}
 use Rattle.slices.specs.Tab.{length_tab, tab_snoc}
 

@@ -1,11 +1,7 @@
 -- `put`: a part that was lent comes back as one, and what it does to lengths, parts and further stores. Assumes nothing.
-use mathlib.Core.Path.{◌≡◌, refl, sym, ap, subst, ◌∙◌}
-use mathlib.Core.List.{List, [], ◌∷◌, ◌++◌, append_assoc, append-nil}
-use Prim.Native.Nat.{ℕ, suc, ◌+◌, ◌-◌, ◌<◌, ◌≤◌}
-use native.Mathlib.Nat.{add-zero, sub-zero}
-use native.Mathlib.Omega.{arith}
-use lib.ListN.{length, get_or, set, take, drop, length-append, length-drop, length-set, take-append-drop, drop_of_length-le}
-use lib.Seq.{drop-cons, set_at, drop-drop, drop_at, take_at, drop-append-add, length-take-le}
+use Rattle.std.proofs.Common.{◌≡◌, refl, sym, ap, subst, ◌∙◌, List, [], ◌∷◌, ◌++◌, append_assoc, append-nil, ℕ, suc, ◌+◌, ◌-◌, ◌<◌, ◌≤◌, add-zero, arith, length, get_or, set, take, drop, length-append, length-drop, length-set, take-append-drop, drop_of_length-le, drop-cons, drop-drop, drop_at, take_at, length-take-le}
+use Rattle.std.proofs.Math.Nat.{sub-zero}
+use Rattle.std.proofs.Math.Seq.{set_at, drop-append-add}
 use borrow.Rule.Slice.PartMut.{put_mid, same_len_mid}
 use Rattle.slices.specs.Lists.{put}
 use Rattle.slices.specs.Tab.{length_part}

@@ -1,13 +1,7 @@
 -- Rows of one length in a slice, the length and the count being variables: where row i lies, and a loop that writes a row at each turn.
 -- The products i * k and n * k are atoms to `omega`: cite `row_fits` and it closes the rest. Assumes nothing.
-use mathlib.Core.Path.{◌≡◌, refl, sym, ap, ap₂, ◌∙◌}
-use mathlib.Core.List.{List, ◌++◌}
-use Prim.Native.Nat.{ℕ, suc, ◌+◌, ◌-◌, ◌*◌, ◌≤◌}
-use native.Mathlib.Nat.{zero-mul, suc-mul}
-use native.Mathlib.Numerals.{add-one}
-use native.Mathlib.Omega.{arith}
-use lib.ListN.{length, take, drop, length-drop}
-use lib.Seq.{take_all, length-take-le, drop-append-le, take-append-le}
+use Rattle.std.proofs.Common.{◌≡◌, refl, sym, ap, ap₂, ◌∙◌, List, ◌++◌, ℕ, suc, ◌+◌, ◌-◌, ◌*◌, ◌≤◌, zero-mul, suc-mul, add-one, arith, length, take, drop, length-drop, take_all, length-take-le}
+use Rattle.std.proofs.Math.Seq.{drop-append-le, take-append-le}
 use borrow.Rule.Slice.PartMut.{put_mid}
 use Rattle.slices.specs.Lists.{put, rows, row}
 pub use Rattle.slices.specs.Tab.{row_fits}

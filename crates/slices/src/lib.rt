@@ -7,25 +7,21 @@ ghost use Rattle.slices.specs.Lists.{put};
 pub fn zero(dst: &mut [u8])
     ensures { dst.new ≡ replicate (length dst.old) 0 }
 {
-    for i in 0..dst.len() {
-        dst[i] = 0;
-    }
+    dst.fill(0);
 }
 
 pub fn copy(dst: &mut [u8], src: &[u8])
     requires { length dst.old ≡ length src.now }
     ensures { dst.new ≡ src.now }
 {
-    for i in 0..src.len() {
-        dst[i] = src[i];
-    }
+    dst.copy_from_slice(src);
 }
 
 // Writes src into dst from index at on.
+#[tactic(auto, using(crate::proofs::Put::put_mid_lem))]
 pub fn copy_at(dst: &mut [u8], at: usize, src: &[u8])
     requires { at + length src.now ≤ length dst.old }
     ensures { dst.new ≡ put dst.old at src.now }
 {
-    let end = at + src.len();
-    copy(&mut dst[at..end], src);
+    dst[at..at + src.len()].copy_from_slice(src);
 }
