@@ -15,8 +15,8 @@ fn prefixes(bits: u32, low: u64, x: u64, out: &mut [u64])
     ensures { out.new ≡ tab (upto bits low x) (length out.old) }
 {
     let mut product = 1;
-    for k in 0..out.len() {
-        out[k] = product;
+    for (k, v) in out.iter_mut().enumerate() {
+        *v = product;
         product = gf::mul(bits, low, product, x ^ (k as u64));
     }
 }
@@ -29,9 +29,7 @@ pub fn values(bits: u32, low: u64, x: u64, weights: &[u64], out: &mut [u64])
 {
     prefixes(bits, low, x, out);
     let mut product = 1;
-    let mut k = out.len();
-    while k > 0 {
-        k -= 1;
+    for k in (0..out.len()).rev() {
         let numerator = gf::mul(bits, low, out[k], product);
         out[k] = gf::mul(bits, low, numerator, weights[k]);
         product = gf::mul(bits, low, product, x ^ (k as u64));
