@@ -30,8 +30,7 @@ pub fn check_key(
     let ciphertext = cipher::encrypt(key, sets::front(shape, public), inputs);
     slices::copy(inverses, inputs);
     sbox_inputs::invert(inverses);
-    let zero = sbox_inputs::first_zero(&inputs[0..n]);
-    if zero < n {
+    if let Some(zero) = sbox_inputs::first_zero(&inputs[0..n]) {
         return Answer::ZeroInput(zero as u8);
     }
     if !equal::equal(&ciphertext, sets::ciphertext(shape, public)) {

@@ -23,8 +23,7 @@ pub fn make_public_key(key: &[u8], plaintext: &[u8], output: &mut [u8]) -> Answe
     let mut inputs = [0u8; 200];
     let ciphertext = cipher::encrypt(key, plaintext, &mut inputs);
     // The key schedule's inputs with the rounds': "Some S-box input under the lent key is zero; place is the lowest S-box."
-    let zero = sbox_inputs::first_zero(&inputs[0..200]);
-    if zero < 200 {
+    if let Some(zero) = sbox_inputs::first_zero(&inputs[0..200]) {
         return Answer::ZeroInput(zero as u8);
     }
     slices::copy_at(output, 0, plaintext);
