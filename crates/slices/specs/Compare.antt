@@ -1,5 +1,6 @@
 -- `same` tells equal lists from others. Assumes nothing.
-use Rattle.std.specs.Prelude.{◌≡◌, refl, Bool, true, false, ◌&&◌, List, [], ◌∷◌, ◌≢◌, ℕ, suc, ◌<◌, ◌≤◌, eqb, length, get_or, drop}
+use Rattle.std.specs.Prelude.{◌≡◌, refl, Bool, true, false, ◌&&◌, List, [], ◌∷◌, ◌≢◌, ℕ, suc, ◌<◌, ◌≤◌, eqb, nat_eq, length, get_or, drop}
+use Rattle.std.specs.Cmp.Lexicographic.{pointwise}
 use Rattle.std.proofs.Common.{sym, ap, ap₂, ◌∙◌, eqb-true, eq-eqb, ne_eqb}
 use Rattle.std.proofs.lemmas.Bool.{false≢true}
 use Rattle.std.proofs.Math.ListN.{drop_of_length-le}
@@ -34,6 +35,14 @@ same_lengths (a ∷ s) (b ∷ t) n = and_false (eqb a b) (same s t) (same_length
     and_false : (a b : Bool) → b ≡ false → (a && b) ≡ false
     and_false true b h = h
     and_false false b h = refl
+
+-- what `==` of slices tells
+pub same_pointwise : (s t : List ℕ) → same s t ≡ pointwise nat_eq s t
+unfolding same
+same_pointwise [] [] = refl
+same_pointwise [] (b ∷ t) = refl
+same_pointwise (a ∷ s) [] = refl
+same_pointwise (a ∷ s) (b ∷ t) = ap (eqb a b &&◌) (same_pointwise s t)
 
 -- ---- for a loop over two lists: at element i, and past the end
 
