@@ -9,7 +9,7 @@ pub fn xor_into(dst: &mut [u8], src: &[u8])
     requires { length dst.old ≡ length src.now }
     ensures { dst.new ≡ zip_xor dst.old src.now }
 {
-    for i in 0..src.len() {
-        dst[i] = dst[i] ^ src[i];
+    for (i, d) in dst.iter_mut().enumerate() {
+        *d ^= src[i];
     }
 }
