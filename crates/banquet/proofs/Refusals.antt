@@ -9,7 +9,7 @@ use Rattle.banquet.specs.declared.Refusal.{Refusal}
 use Rattle.banquet.specs.Answer.{Answer, accepted, verdict_of_refusal, verdict_of, Test, require, in_order, each, all, clears}
 
 -- a refusal isn't acceptance
-refused : (a : Refusal) → Err a ≢ accepted
+pub refused : (a : Refusal) → Err a ≢ accepted
 refused a e = true≢false (sym (ap is_ok e))
 
 -- ---- one test

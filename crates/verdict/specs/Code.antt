@@ -1,7 +1,6 @@
 -- An answer as one number: number * 65,536 + place, so that 0 is accepted.
 use Rattle.std.specs.Prelude.{List, [], ◌∷◌, ℕ, ◌+◌, ◌*◌}
-use Rattle.banquet.specs.declared.Answer.{Answer}
-use Rattle.banquet.specs.Answer.{verdict_of}
+use Rattle.banquet.specs.Answer.{Answer, verdict_of}
 use Rattle.banquet.specs.Calls.{Written, Checked, Made}
 
 unfoldable pub code_of : Answer → ℕ

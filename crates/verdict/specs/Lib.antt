@@ -1,4 +1,3 @@
--- Answers that refuse, calls that begin with tests, and an answer as one number.
-pub mod Refusal
+-- Calls that begin with tests, and an answer as one number.
 pub mod Tests
 pub mod Code

@@ -5,7 +5,7 @@ ghost use Rattle.std.specs.Prelude.{◌≡◌};
 ghost use Rattle.banquet.specs.Answer.{verdict, verdict_of};
 ghost use Rattle.verdict.specs.Code.{code_of};
 
-use banquet::{Answer, Verdict};
+use banquet::{Answer, Refusal, Verdict};
 
 fn at(number: u8, place: u8) -> Verdict
     ensures { result ≡ verdict number place }
@@ -16,30 +16,30 @@ fn at(number: u8, place: u8) -> Verdict
     }
 }
 
-// The number and the place that document 01 gives each answer.
+// The number and the place that document 01 gives each answer; 0 and 0 for accepted.
 pub fn verdict(answer: Answer) -> Verdict
     ensures { result ≡ verdict_of answer }
 {
     match answer {
-        Answer::Accepted => at(0, 0),
-        Answer::KeyLength => at(1, 0),
-        Answer::PublicKeyLength => at(2, 0),
-        Answer::MessageLength => at(3, 0),
-        Answer::SaltLength => at(4, 0),
-        Answer::SeedLength => at(5, 0),
-        Answer::FileLength => at(6, 0),
-        Answer::WorkLength => at(7, 0),
-        Answer::ExecutionRange => at(8, 0),
-        Answer::HiddenPartyRange => at(9, 0),
-        Answer::SecondChallengeRange => at(10, 0),
-        Answer::ZeroInput(place) => at(11, place),
-        Answer::WrongKey => at(12, 0),
-        Answer::CommitmentDiffers(place) => at(13, place),
-        Answer::ShareDiffers(place) => at(14, place),
-        Answer::ProductDiffers(place) => at(15, place),
-        Answer::FirstHashDiffers => at(16, 0),
-        Answer::ThirdHashDiffers => at(17, 0),
-        Answer::TextForm(place) => at(18, place),
+        Ok(()) => at(0, 0),
+        Err(Refusal::KeyLength) => at(1, 0),
+        Err(Refusal::PublicKeyLength) => at(2, 0),
+        Err(Refusal::MessageLength) => at(3, 0),
+        Err(Refusal::SaltLength) => at(4, 0),
+        Err(Refusal::SeedLength) => at(5, 0),
+        Err(Refusal::FileLength) => at(6, 0),
+        Err(Refusal::WorkLength) => at(7, 0),
+        Err(Refusal::ExecutionRange) => at(8, 0),
+        Err(Refusal::HiddenPartyRange) => at(9, 0),
+        Err(Refusal::SecondChallengeRange) => at(10, 0),
+        Err(Refusal::ZeroInput(place)) => at(11, place),
+        Err(Refusal::WrongKey) => at(12, 0),
+        Err(Refusal::CommitmentDiffers(place)) => at(13, place),
+        Err(Refusal::ShareDiffers(place)) => at(14, place),
+        Err(Refusal::ProductDiffers(place)) => at(15, place),
+        Err(Refusal::FirstHashDiffers) => at(16, 0),
+        Err(Refusal::ThirdHashDiffers) => at(17, 0),
+        Err(Refusal::TextForm(place)) => at(18, place),
     }
 }
 
