@@ -12,12 +12,10 @@ pub fn dot(bits: u32, low: u64, coefficients: &[u64], values: &[u64]) -> u64
     requires { Fits bits low × (length values.now ≤ length coefficients.now) }
     ensures { result ≡ dot_product bits low values.now coefficients.now }
 {
-    let mut sum: u64 = 0;
-    for k in 0..values.len() {
-        let term = gf::mul(bits, low, values[k], coefficients[k]);
-        sum = sum ^ term;
-    }
-    sum
+    values
+        .iter()
+        .zip(coefficients)
+        .fold(0, |sum, (v, c)| sum ^ gf::mul(bits, low, *v, *c))
 }
 
 // The sum over k < rows of coefficient k times the lift of byte j + k m1, by the coefficients' tables.
