@@ -9,18 +9,14 @@ ghost use Rattle.aes.specs.Aes.{matrix};
 fn affine_byte(b: u8, c: u8) -> u8
     ensures { result ≡ bit_xor (matrix b) c }
 {
-    let r1 = (b << 1) ^ (b >> 7);
-    let r2 = (b << 2) ^ (b >> 6);
-    let r3 = (b << 3) ^ (b >> 5);
-    let r4 = (b << 4) ^ (b >> 4);
-    b ^ r1 ^ r2 ^ r3 ^ r4 ^ c
+    b ^ b.rotate_left(1) ^ b.rotate_left(2) ^ b.rotate_left(3) ^ b.rotate_left(4) ^ c
 }
 
 // The affine transformation of each byte, with the constant c.
 pub fn affine(s: &mut [u8], c: u8)
     ensures { s.new ≡ map (λ b. bit_xor (matrix b) c) s.old }
 {
-    for i in 0..s.len() {
-        s[i] = affine_byte(s[i], c);
+    for b in s.iter_mut() {
+        *b = affine_byte(*b, c);
     }
 }
