@@ -2,7 +2,7 @@
 use Rattle.std.specs.Prelude.{◌≡◌, List, ℕ, ◌^◌, ◌≤◌, ◌<◌, length, take, drop}
 use Rattle.std.proofs.Common.{sym, subst}
 use Rattle.slices.specs.Bytes.{Bytes, Sized}
-use Rattle.banquet.specs.declared.Answer.TheVariants.{Accepted}
+use Rattle.banquet.specs.Answer.{accepted}
 use Rattle.banquet.specs.Shape.{message_limit, work_length, public_key_length, opening_length, signature_length}
 use Rattle.banquet.specs.Scheme.{Scheme, GoodKey}
 use Rattle.banquet.specs.Key.{front_of, ciphertext_of}
@@ -23,7 +23,7 @@ module _ (𝓢 : Scheme) (F : Figures) where
   -- A key that a public key was made from is good for it.
   abbrev pub MadeKeyGood : Type 0
   MadeKeyGood =
-      (key plaintext output : List ℕ) → Bytes key → Bytes plaintext → (make_public_key 𝓢 key plaintext output).answer ≡ Accepted
+      (key plaintext output : List ℕ) → Bytes key → Bytes plaintext → (make_public_key 𝓢 key plaintext output).answer ≡ accepted
       → GoodFor (take F.public_key (make_public_key 𝓢 key plaintext output).output) key
 
   -- ---- opening execution e, under the first draws r, the second draw R and the hidden party h
@@ -35,23 +35,23 @@ module _ (𝓢 : Scheme) (F : Figures) where
       → Sized F.first_challenge r → length root ≡ 16 → F.opening ≤ length output → work_length ≤ length work
       → e < F.executions → h < F.parties → F.rows ≤ R → R < 2 ^ F.bits
       → GoodFor public_key key
-      → (open_execution 𝓢 key public_key salt root r e R h output work).answer ≡ Accepted
+      → (open_execution 𝓢 key public_key salt root r e R h output work).answer ≡ accepted
 
   -- Where opening is accepted, the key is good,
   abbrev pub OpensGoodKey : Type 0
   OpensGoodKey =
       (key public_key salt root r : List ℕ) (e R h : ℕ) (output work : List ℕ) → Bytes key → Bytes public_key
-      → (open_execution 𝓢 key public_key salt root r e R h output work).answer ≡ Accepted
+      → (open_execution 𝓢 key public_key salt root r e R h output work).answer ≡ accepted
       → GoodFor public_key key
 
   -- and the opening that is written is accepted.
   abbrev pub OpenedAccepted : Type 0
   OpenedAccepted =
       (key public_key salt root r : List ℕ) (e R h : ℕ) (output work work' : List ℕ) → Bytes key → Bytes public_key → Bytes r → R < 2 ^ F.bits
-      → (open_execution 𝓢 key public_key salt root r e R h output work).answer ≡ Accepted
+      → (open_execution 𝓢 key public_key salt root r e R h output work).answer ≡ accepted
       → work_length ≤ length work'
       → (verify_opening 𝓢 public_key (take F.opening (open_execution 𝓢 key public_key salt root r e R h output work).output) work').answer
-      ≡ Accepted
+      ≡ accepted
 
   -- ---- signing
 
@@ -60,22 +60,22 @@ module _ (𝓢 : Scheme) (F : Figures) where
       (key public_key message salt seeds output work : List ℕ) → Sized 16 key → Sized F.public_key public_key → length message ≤ message_limit
       → length salt ≡ 32 → length seeds ≡ F.root_seeds → F.signature ≤ length output → work_length ≤ length work
       → GoodFor public_key key
-      → (sign 𝓢 key public_key message salt seeds output work).answer ≡ Accepted
+      → (sign 𝓢 key public_key message salt seeds output work).answer ≡ accepted
 
   -- Where signing is accepted, the key is good,
   abbrev pub SignsGoodKey : Type 0
   SignsGoodKey =
       (key public_key message salt seeds output work : List ℕ) → Bytes key → Bytes public_key
-      → (sign 𝓢 key public_key message salt seeds output work).answer ≡ Accepted
+      → (sign 𝓢 key public_key message salt seeds output work).answer ≡ accepted
       → GoodFor public_key key
 
   -- and "every seal made with a good key is accepted".
   abbrev pub SignedAccepted : Type 0
   SignedAccepted =
       (key public_key message salt seeds output work work' : List ℕ) → Bytes key → Bytes public_key
-      → (sign 𝓢 key public_key message salt seeds output work).answer ≡ Accepted
+      → (sign 𝓢 key public_key message salt seeds output work).answer ≡ accepted
       → work_length ≤ length work'
-      → (verify 𝓢 public_key message (take F.signature (sign 𝓢 key public_key message salt seeds output work).output) work').answer ≡ Accepted
+      → (verify 𝓢 public_key message (take F.signature (sign 𝓢 key public_key message salt seeds output work).output) work').answer ≡ accepted
 
 -- ---- they hold
 
@@ -118,7 +118,7 @@ module _ (𝓢 : Scheme) (L : Laws 𝓢) {F : Figures} (are : figures_of 𝓢.sh
       subst (OpenedAccepted 𝓢) are
       (λ key public_key salt root r e R h output work work' kb pb rb w_r acc w.
       let input = inputs.open_split 𝓢 L key public_key salt root r e R h output work kb pb acc rb w_r in
-      subst (λ (o : List ℕ). (verify_opening 𝓢 public_key o work').answer ≡ Accepted)
+      subst (λ (o : List ℕ). (verify_opening 𝓢 public_key o work').answer ≡ accepted)
       (sym (output_begins (opening_length 𝓢.shape) output (opens.opening_size 𝓢 L key public_key salt root r e R h input) acc))
       (opens.opening_accepted 𝓢 L key public_key salt root r e R h input work' w))
 
@@ -140,6 +140,6 @@ module _ (𝓢 : Scheme) (L : Laws 𝓢) {F : Figures} (are : figures_of 𝓢.sh
       subst (SignedAccepted 𝓢) are
       (λ key public_key message salt seeds output work work' kb pb acc w.
       let input = inputs.sign_split 𝓢 L key public_key message salt seeds output work kb pb acc in
-      subst (λ (s : List ℕ). (verify 𝓢 public_key message s work').answer ≡ Accepted)
+      subst (λ (s : List ℕ). (verify 𝓢 public_key message s work').answer ≡ accepted)
       (sym (output_begins (signature_length 𝓢.shape) output (signs.signature_size 𝓢 L key public_key message salt seeds input) acc))
       (signs.signature_accepted 𝓢 L key public_key message salt seeds input work' w))

@@ -5,7 +5,7 @@ use Rattle.poly.specs.Field.{Ops}
 use Rattle.poly.specs.Index.{update}
 use Rattle.poly.specs.Sum.{sum}
 use Rattle.poly.specs.Poly.{All, Distinct, IsZero, eval}
-use Rattle.banquet.specs.declared.Answer.TheVariants.{Accepted}
+use Rattle.banquet.specs.Answer.{accepted}
 use Rattle.banquet.specs.Scheme.{Scheme, GoodKey, wide_ops}
 use Rattle.banquet.specs.Hash.{commitment}
 use Rattle.banquet.specs.Execution.{Committed, Challenge}
@@ -95,8 +95,8 @@ module _ (𝓢 : Scheme) (F : Figures) where
   abbrev pub Demand3 : Type 0
   Demand3 =
       (public_key o o' work work' : List ℕ) → Bytes public_key → Bytes o
-      → (verify_opening 𝓢 public_key o work).answer ≡ Accepted
-      → (verify_opening 𝓢 public_key o' work').answer ≡ Accepted
+      → (verify_opening 𝓢 public_key o work).answer ≡ accepted
+      → (verify_opening 𝓢 public_key o' work').answer ≡ accepted
       → before F o ≡ before F o'
       → hidden F o ≢ hidden F o'
       → TwoSeeds o o'

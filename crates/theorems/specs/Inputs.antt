@@ -4,7 +4,6 @@ use Rattle.std.proofs.Math.Path.{refl}
 use Rattle.std.proofs.Common.{◌∙◌}
 use borrow.Author.Tests.{eqb-true, ltb-true, leb-true, eq-eqb, lt-ltb, le-leb}
 use Rattle.slices.specs.Bytes.{Bytes, Sized}
-use Rattle.banquet.specs.declared.Answer.TheVariants.{Accepted}
 use Rattle.banquet.specs.Shape.{
   work_length,
   public_key_length,
@@ -16,7 +15,7 @@ use Rattle.banquet.specs.Shape.{
 }
 use Rattle.banquet.specs.Scheme.{Scheme, GoodKey, Wide}
 use Rattle.banquet.specs.Key.{front_of, ciphertext_of, check_key}
-use Rattle.banquet.specs.Answer.{Test, in_order}
+use Rattle.banquet.specs.Answer.{accepted, Test, in_order}
 use Rattle.banquet.specs.Opening.{range_tests}
 use Rattle.banquet.specs.Calls.{open_tests, open_answer, sign_tests, sign_answer}
 use Rattle.theorems.specs.Laws.{Laws}
@@ -43,20 +42,20 @@ module _ (𝓢 : Scheme) (L : Laws 𝓢) (key public_key salt root first_bytes :
   open_lengths =
       open_tests 𝓢.shape (length key) (length public_key) (length salt) (length root) (length first_bytes) (length output) (length work)
 
-  module _ (kb : Bytes key) (pb : Bytes public_key) (acc : open_answer 𝓢 key public_key salt root first_bytes e R hidden output work ≡ Accepted) where
+  module _ (kb : Bytes key) (pb : Bytes public_key) (acc : open_answer 𝓢 key public_key salt root first_bytes e R hidden output work ≡ accepted) where
     lengths : ((k : ℕ) → test_at open_lengths k ≡ true)
-        × (in_order (range_tests 𝓢.shape e hidden R) (check_key 𝓢 public_key key Accepted) ≡ Accepted)
+        × (in_order (range_tests 𝓢.shape e hidden R) (check_key 𝓢 public_key key accepted) ≡ accepted)
     unfolding open_answer
-    lengths = all_pass open_lengths _ refl acc
+    lengths = all_pass open_lengths _ acc
 
-    ranges : ((k : ℕ) → test_at (range_tests 𝓢.shape e hidden R) k ≡ true) × (check_key 𝓢 public_key key Accepted ≡ Accepted)
-    ranges = all_pass (range_tests 𝓢.shape e hidden R) _ refl lengths.1
+    ranges : ((k : ℕ) → test_at (range_tests 𝓢.shape e hidden R) k ≡ true) × (check_key 𝓢 public_key key accepted ≡ accepted)
+    ranges = all_pass (range_tests 𝓢.shape e hidden R) _ lengths.1
 
     sized : Sized (public_key_length 𝓢.shape) public_key
     sized = record { size = eqb-true _ _ (lengths.0 1); bytes = pb }
 
     pub open_good : GoodKey 𝓢 (front_of 𝓢 public_key) (ciphertext_of 𝓢 public_key) key
-    open_good = (key_split 𝓢 L sized kb Accepted ranges.1).0
+    open_good = (key_split 𝓢 L sized kb accepted ranges.1).0
 
     pub open_split : Bytes first_bytes → Wide 𝓢 R → OpenInput 𝓢 key public_key salt root first_bytes e R hidden
     open_split fb wr = record {
@@ -73,14 +72,14 @@ module _ (𝓢 : Scheme) (L : Laws 𝓢) (key public_key salt root first_bytes :
     }
 
   pub open_join : OpenInput 𝓢 key public_key salt root first_bytes e R hidden → opening_length 𝓢.shape ≤ length output → work_length ≤ length work
-      → open_answer 𝓢 key public_key salt root first_bytes e R hidden output work ≡ Accepted
+      → open_answer 𝓢 key public_key salt root first_bytes e R hidden output work ≡ accepted
   unfolding open_answer
   open_join i o w =
       passed open_lengths _
       (eq-eqb _ _ i.key_sized.size and eq-eqb _ _ i.public_sized.size and eq-eqb _ _ i.salt_size and eq-eqb _ _ i.first_sized.size
       and eq-eqb _ _ i.root_size and le-leb _ _ o and le-leb _ _ w and tt)
       ∙ passed (range_tests 𝓢.shape e hidden R) _ (lt-ltb _ _ i.in_range and lt-ltb _ _ i.hides and le-leb _ _ i.second and tt)
-      ∙ key_join 𝓢 L i.public_sized i.key_sized.bytes Accepted i.good refl
+      ∙ key_join 𝓢 L i.public_sized i.key_sized.bytes accepted i.good refl
 
 -- ---- what signing accepts
 
@@ -97,11 +96,11 @@ module _ (𝓢 : Scheme) (L : Laws 𝓢) (key public_key message salt seeds outp
   sign_lengths =
       sign_tests 𝓢.shape (length key) (length public_key) (length message) (length salt) (length seeds) (length output) (length work)
 
-  pub sign_split : Bytes key → Bytes public_key → sign_answer 𝓢 key public_key message salt seeds output work ≡ Accepted
+  pub sign_split : Bytes key → Bytes public_key → sign_answer 𝓢 key public_key message salt seeds output work ≡ accepted
       → SignInput 𝓢 key public_key message salt seeds
   unfolding sign_answer
   sign_split kb pb acc =
-      let lengths = all_pass sign_lengths _ refl acc in
+      let lengths = all_pass sign_lengths _ acc in
       let ps : Sized (public_key_length 𝓢.shape) public_key = record { size = eqb-true _ _ (lengths.0 1); bytes = pb } in
       record {
         key_sized = record { size = eqb-true _ _ (lengths.0 0); bytes = kb };
@@ -109,14 +108,14 @@ module _ (𝓢 : Scheme) (L : Laws 𝓢) (key public_key message salt seeds outp
         message_size = leb-true _ _ (lengths.0 2);
         salt_size = eqb-true _ _ (lengths.0 3);
         seeds_size = eqb-true _ _ (lengths.0 4);
-        good = (key_split 𝓢 L ps kb Accepted lengths.1).0;
+        good = (key_split 𝓢 L ps kb accepted lengths.1).0;
       }
 
   pub sign_join : SignInput 𝓢 key public_key message salt seeds → signature_length 𝓢.shape ≤ length output → work_length ≤ length work
-      → sign_answer 𝓢 key public_key message salt seeds output work ≡ Accepted
+      → sign_answer 𝓢 key public_key message salt seeds output work ≡ accepted
   unfolding sign_answer
   sign_join i o w =
       passed sign_lengths _
       (eq-eqb _ _ i.key_sized.size and eq-eqb _ _ i.public_sized.size and le-leb _ _ i.message_size and eq-eqb _ _ i.salt_size
       and eq-eqb _ _ i.seeds_size and le-leb _ _ o and le-leb _ _ w and tt)
-      ∙ key_join 𝓢 L i.public_sized i.key_sized.bytes Accepted i.good refl
+      ∙ key_join 𝓢 L i.public_sized i.key_sized.bytes accepted i.good refl

@@ -10,7 +10,7 @@ use Rattle.slices.specs.Bytes.{Sized}
 use Rattle.slices.specs.Sums.{sum_xor_cong}
 use Rattle.slices.specs.Layout.{total}
 use Rattle.poly.specs.Sum.{sum_cong}
-use Rattle.banquet.specs.declared.Answer.TheVariants.{Accepted}
+use Rattle.banquet.specs.Answer.{accepted}
 use Rattle.banquet.specs.Shape.{work_length, transcript_sizes, opening_length}
 use Rattle.banquet.specs.Scheme.{Scheme, wide_ops, wide_mul}
 use Rattle.banquet.specs.Hash.{commitment}
@@ -146,7 +146,7 @@ module _ (𝓢 : Scheme) (L : Laws 𝓢) (key public_key salt root first_bytes :
 
   -- "every seal made with a good key is accepted", for openings
   pub opening_accepted : (work : List ℕ) → work_length ≤ length work
-      → verify_opening_answer 𝓢 public_key (opening 𝓢 key public_key salt root first_bytes e R hidden) work ≡ Accepted
+      → verify_opening_answer 𝓢 public_key (opening 𝓢 key public_key salt root first_bytes e R hidden) work ≡ accepted
   unfolding opening
   opening_accepted work w =
       holds_opening 𝓢 public_key (t ++ hidden ∷ q) work

@@ -11,7 +11,7 @@ use Rattle.slices.specs.Bytes.{Bytes, append_bytes, rows_bytes}
 use Rattle.slices.specs.Tab.{length_rows, row_of_rows}
 use Rattle.slices.specs.Layout.{total, field, layout, HasSizes, length_layout, layout_bytes, field_layout_append}
 use Rattle.poly.specs.Sum.{sum}
-use Rattle.banquet.specs.declared.Answer.TheVariants.{Accepted}
+use Rattle.banquet.specs.Answer.{accepted}
 use Rattle.banquet.specs.Shape.{work_length, head_sizes, frame_sizes, signature_length}
 use Rattle.banquet.specs.Scheme.{Scheme, wide_ops, wide_mul}
 use Rattle.banquet.specs.Hash.{first_hash, third_hash}
@@ -139,7 +139,7 @@ module _ (𝓢 : Scheme) (L : Laws 𝓢) (key public_key message salt seeds : Li
 
   -- "every seal made with a good key is accepted"
   pub signature_accepted : (work : List ℕ) → work_length ≤ length work
-      → verify_answer 𝓢 public_key message (signature 𝓢 key public_key message salt seeds) work ≡ Accepted
+      → verify_answer 𝓢 public_key message (signature 𝓢 key public_key message salt seeds) work ≡ accepted
   signature_accepted work w =
       holds_signature 𝓢 public_key message s work
       (record {
