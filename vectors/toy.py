@@ -292,7 +292,7 @@ def slice_rows():
     yield 'two bytes beyond 65,536'
     longer = bytearray(work.value + bytes([8, 9]))
     call(bytes, work=longer)
-    yield 'drop 65534 (work_after Accepted (work ++ (8 ∷ 9 ∷ [])))', longer[65534:]
+    yield 'drop 65534 (work_after accepted (work ++ (8 ∷ 9 ∷ [])))', longer[65534:]
 
 
 def opening_told(file, key=public_key, scheme=TOY):
@@ -452,9 +452,7 @@ HEADER = """-- Written by vectors/toy.py: what the definitions are asked for, an
 use Rattle.std.specs.Prelude.{true, List, [], ◌∷◌, ◌++◌, map, ℕ, get_or, take, drop, replicate}
 use Rattle.slices.specs.Lists.{choose, part, put}
 use Rattle.banquet.specs.declared.Verdict.{Verdict}
-use Rattle.banquet.specs.declared.Answer.{Answer}
-use Rattle.banquet.specs.declared.Answer.TheVariants.{Accepted}
-use Rattle.banquet.specs.Answer.{verdict, verdict_of, clears, work_after, output_after}
+use Rattle.banquet.specs.Answer.{Answer, accepted, verdict, verdict_of, clears, work_after, output_after}
 use Rattle.banquet.specs.Signer.{tape_of, product_offset_at}
 use Rattle.banquet.specs.Opening.{opening}
 use Rattle.banquet.specs.Signature.{frame_of}

@@ -2,9 +2,7 @@
 use Rattle.std.specs.Prelude.{true, List, [], ◌∷◌, ◌++◌, map, ℕ, get_or, take, drop, replicate}
 use Rattle.slices.specs.Lists.{choose, part, put}
 use Rattle.banquet.specs.declared.Verdict.{Verdict}
-use Rattle.banquet.specs.declared.Answer.{Answer}
-use Rattle.banquet.specs.declared.Answer.TheVariants.{Accepted}
-use Rattle.banquet.specs.Answer.{verdict, verdict_of, clears, work_after, output_after}
+use Rattle.banquet.specs.Answer.{Answer, accepted, verdict, verdict_of, clears, work_after, output_after}
 use Rattle.banquet.specs.Signer.{tape_of, product_offset_at}
 use Rattle.banquet.specs.Opening.{opening}
 use Rattle.banquet.specs.Signature.{frame_of}
@@ -143,7 +141,7 @@ slices work =
     ∷ (map (λ (x : Answer). choose (clears (verdict_of x)) 0 7) answers, 0 ∷ 7 ∷ 7 ∷ 7 ∷ 7 ∷ 7 ∷ 7 ∷ 7 ∷ 7 ∷ 7 ∷ 7 ∷ 7 ∷ 7 ∷ 0 ∷ 0 ∷ 0 ∷ 0 ∷ 0 ∷ 7 ∷ [])
     ∷ (map (λ (x : Answer). get_or (output_after x (5 ∷ []) (7 ∷ [])) 0 1) answers, 5 ∷ 7 ∷ 7 ∷ 7 ∷ 7 ∷ 7 ∷ 7 ∷ 7 ∷ 7 ∷ 7 ∷ 7 ∷ 7 ∷ 7 ∷ 7 ∷ 7 ∷ 7 ∷ 7 ∷ 7 ∷ 7 ∷ [])
     -- two bytes beyond 65,536
-    ∷ (drop 65534 (work_after Accepted (work ++ (8 ∷ 9 ∷ []))), 0 ∷ 0 ∷ 8 ∷ 9 ∷ [])
+    ∷ (drop 65534 (work_after accepted (work ++ (8 ∷ 9 ∷ []))), 0 ∷ 0 ∷ 8 ∷ 9 ∷ [])
     ∷ []
 
 -- ---- checks of openings

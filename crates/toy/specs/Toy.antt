@@ -1,12 +1,11 @@
 -- Toys that the kernel can compute: a hash, a circuit and small parameter sets; and the words in which the rows are told.
-use Rattle.std.specs.Prelude.{◌≡◌, true, List, [], ◌∷◌, ◌++◌, map, ℕ, zero, suc, ◌+◌, ◌*◌, ◌/◌, ◌%◌, eqb, leb, length, take, drop, replicate}
+use Rattle.std.specs.Prelude.{◌≡◌, Err, true, List, [], ◌∷◌, ◌++◌, map, ℕ, zero, suc, ◌+◌, ◌*◌, ◌/◌, ◌%◌, eqb, leb, length, take, drop, replicate}
 use Rattle.std.specs.Int.Bits.{bit_xor}
 use Rattle.slices.specs.Lists.{zip_xor}
 use Rattle.field.specs.Byte.{inverse8}
 use Rattle.circuit.specs.Circuit.{Share}
-use Rattle.banquet.specs.declared.Answer.{Answer}
-use Rattle.banquet.specs.declared.Answer.TheVariants.{
-  Accepted,
+use Rattle.banquet.specs.Answer.{Answer, accepted}
+use Rattle.banquet.specs.declared.Refusal.TheVariants.{
   KeyLength,
   PublicKeyLength,
   MessageLength,
@@ -114,9 +113,11 @@ expected {A} rows = map (λ (r : Row A). r.1) rows
 -- every answer, from number 0 to 18
 abbrev pub answers : List Answer
 answers =
-    Accepted ∷ KeyLength ∷ PublicKeyLength ∷ MessageLength ∷ SaltLength ∷ SeedLength ∷ FileLength ∷ WorkLength ∷ ExecutionRange ∷ HiddenPartyRange
+    accepted
+    ∷ map Err
+    (KeyLength ∷ PublicKeyLength ∷ MessageLength ∷ SaltLength ∷ SeedLength ∷ FileLength ∷ WorkLength ∷ ExecutionRange ∷ HiddenPartyRange
     ∷ SecondChallengeRange ∷ ZeroInput 1 ∷ WrongKey ∷ CommitmentDiffers 1 ∷ ShareDiffers 1 ∷ ProductDiffers 1 ∷ FirstHashDiffers ∷ ThirdHashDiffers
-    ∷ TextForm 1 ∷ []
+    ∷ TextForm 1 ∷ [])
 
 -- a list with elements put in, or left out, from an index on
 abbrev pub insert : ℕ → List ℕ → List ℕ → List ℕ
