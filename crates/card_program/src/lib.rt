@@ -17,13 +17,9 @@ fn room() -> [u8; card_sizes::TEXT + 1]
 // Where a read fails nothing is printed, since the text may go on.
 pub fn run(rt: HostRuntime) {
     let mut text = room();
-    let input = stdio::read(rt, &mut text);
-    if input.failed {
+    let Ok(n) = stdio::read(rt, &mut text) else {
         return;
-    }
-    let n = input.length;
+    };
     let line = print_card::print_card(&text[..n]);
-    let bytes = line.bytes;
-    let end = line.length;
-    stdio::write(rt, &bytes[..end]);
+    stdio::write(rt, &line.bytes[..line.length]);
 }

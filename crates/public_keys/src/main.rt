@@ -18,15 +18,10 @@ fn answer(rt: HostRuntime, pair: &[u8], n: u32) -> bool {
 fn main(rt: HostRuntime) {
     for i in 0..4000000000u32 {
         let mut pair = [0u8; 65];
-        let input = stdio::read(rt, &mut pair);
-        if input.failed {
+        let Ok(n) = stdio::read(rt, &mut pair) else {
             return;
-        }
-        let n = input.length;
-        if n == 0 {
-            return;
-        }
-        if !answer(rt, &pair[..n], i + 1) {
+        };
+        if n == 0 || !answer(rt, &pair[..n], i + 1) {
             return;
         }
     }

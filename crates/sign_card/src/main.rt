@@ -23,11 +23,9 @@ fn card_room() -> [u8; card_sizes::TEXT]
 
 fn main(rt: HostRuntime) {
     let mut text = request_room();
-    let input = stdio::read(rt, &mut text);
-    if input.failed {
+    let Ok(n) = stdio::read(rt, &mut text) else {
         return;
-    }
-    let n = input.length;
+    };
     let mut card = card_room();
     let end = requests::print_request(&text[..n], &mut card);
     stdio::write(rt, &card[..end]);

@@ -1,16 +1,9 @@
--- What the answer of a read or a write says. Assumes nothing.
-use Rattle.std.specs.Prelude.{Bool, true, false, ℕ, zero, suc, Result, Ok, Err}
+-- What the answer of a read says. Assumes nothing.
+use Rattle.std.specs.Prelude.{ℕ, Result, Ok, Err}
 use Rattle.std.specs.declared.io.Error.{Error}
-use Rattle.stdio.specs.declared.Outcome.{Outcome}
-use Rattle.stdio.specs.declared.Outcome.TheVariants.{Bytes, End, Failed}
+use Rattle.stdio.specs.declared.ReadFailed.{ReadFailed}
 
--- 0 is the end, a number above it that of the bytes that were read or written, and an error a failure
-unfoldable pub outcome_of : Result ℕ Error → Outcome
-outcome_of (Ok zero) = End
-outcome_of (Ok (suc n)) = Bytes (suc n)
-outcome_of (Err e) = Failed e
-
-unfoldable pub has_failed : Outcome → Bool
-has_failed (Bytes n) = false
-has_failed End = false
-has_failed (Failed e) = true
+-- a number is that of the bytes that were read, 0 at the end, and an error a failure, after that many bytes
+abbrev pub outcome_of : ℕ → Result ℕ Error → Result ℕ ReadFailed
+outcome_of before (Ok n) = Ok n
+outcome_of before (Err e) = Err (record { length = before })

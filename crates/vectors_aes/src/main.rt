@@ -5,6 +5,8 @@
 
 ghost use Rattle.std.specs.Prelude.{◌≡◌, ◌≤◌, length};
 
+use stdio::ReadFailed;
+
 // Two digits a byte, and a space.
 fn print(rt: HostRuntime, s: &[u8])
     requires { length s.now ≤ 200 }
@@ -42,9 +44,9 @@ fn answer(rt: HostRuntime, line: &[u8])
 fn main(rt: HostRuntime) {
     let mut line = [0u8; 66];
     for _ in 0..100usize {
-        if stdio::read(rt, &mut line).length == 0 {
-            return;
+        match stdio::read(rt, &mut line) {
+            Ok(0) | Err(ReadFailed { length: 0 }) => return,
+            _ => answer(rt, &line),
         }
-        answer(rt, &line);
     }
 }
