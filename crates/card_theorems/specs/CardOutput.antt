@@ -3,11 +3,9 @@ use Rattle.std.specs.Prelude.{◌≡◌, ◌⊎◌, true, false, List, [], ◌�
 use Rattle.std.proofs.Math.Path.{ap, subst}
 use Rattle.std.proofs.Common.{◌∙◌, arith}
 use Rattle.slices.specs.Bytes.{Bytes, Sized}
-use Rattle.banquet.specs.declared.Answer.{Answer}
-use Rattle.banquet.specs.declared.Answer.TheVariants.{Accepted}
 use Rattle.banquet.specs.Shape.{message_limit, work_length}
 use Rattle.banquet.specs.Scheme.{Scheme}
-use Rattle.banquet.specs.Answer.{verdict_of}
+use Rattle.banquet.specs.Answer.{Answer, accepted, verdict_of}
 use Rattle.banquet.specs.Signature.{signature}
 use Rattle.banquet.specs.Calls.{sign, verify}
 use Rattle.banquet.specs.Card.{line_of, after_line, is_line, card_text, accepted_word, refusal_line, printed, card_output}
@@ -36,14 +34,14 @@ SecondLineRefused 𝓢 F =
 abbrev pub CardAccepted : Scheme → Figures → Type 0
 CardAccepted 𝓢 F =
     (public_key message s : List ℕ) → Sized F.public_key public_key → Bytes message → length message ≤ message_limit → Sized F.signature s
-    → (verify 𝓢 public_key message s room).answer ≡ Accepted
+    → (verify 𝓢 public_key message s room).answer ≡ accepted
     → card_output 𝓢 (card_text 𝓢 public_key message s) ≡ accepted_word ++ (0x0a ∷ [])
 
 -- "every seal made with a good key is accepted": of the card of a message that `sign` signed the program prints `accepted`.
 abbrev pub SignedCardAccepted : Scheme → Type 0
 SignedCardAccepted 𝓢 =
     (key public_key message salt seeds output work : List ℕ) → Bytes key → Bytes public_key → Bytes message → Bytes salt
-    → (sign 𝓢 key public_key message salt seeds output work).answer ≡ Accepted
+    → (sign 𝓢 key public_key message salt seeds output work).answer ≡ accepted
     → card_output 𝓢 (card_text 𝓢 public_key message (signature 𝓢 key public_key message salt seeds)) ≡ accepted_word ++ (0x0a ∷ [])
 
 -- ---- they hold (the last: proofs/CardOutput)

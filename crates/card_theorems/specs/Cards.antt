@@ -1,7 +1,7 @@
 -- The text of a card says what its bytes say, of any scheme. Assumes nothing.
 use Rattle.std.proofs.Math.Path.{◌≡◌, refl, ap, ap₂}
 use Rattle.std.proofs.Common.{sym, ◌∙◌}
-use Rattle.std.specs.Prelude.{Bool, ℕ, suc, ◌+◌, ◌*◌, ◌<◌, ◌≤◌, take, replicate}
+use Rattle.std.specs.Prelude.{Err, Bool, ℕ, suc, ◌+◌, ◌*◌, ◌<◌, ◌≤◌, take, replicate}
 use Rattle.std.proofs.Math.Bool.{true, false}
 use mathlib.Core.List.{List, ◌∷◌, ◌++◌}
 use native.Mathlib.Omega.{arith}
@@ -11,11 +11,10 @@ use Rattle.slices.specs.Lists.{choose}
 use Rattle.slices.specs.Layout.{total}
 use Rattle.slices.specs.Bytes.{Bytes, Sized}
 use Rattle.banquet.specs.declared.Shape.{Shape}
-use Rattle.banquet.specs.declared.Answer.{Answer}
-use Rattle.banquet.specs.declared.Answer.TheVariants.{TextForm}
+use Rattle.banquet.specs.declared.Refusal.TheVariants.{TextForm}
 use Rattle.banquet.specs.Shape.{message_limit, public_key_length, head_length, frame_sizes, signature_length}
 use Rattle.banquet.specs.Scheme.{Scheme}
-use Rattle.banquet.specs.Answer.{require}
+use Rattle.banquet.specs.Answer.{Answer, require}
 use Rattle.banquet.specs.Calls.{verify_answer}
 use Rattle.banquet.specs.Card.{
   decoded,
@@ -117,7 +116,7 @@ module _ (𝓢 : Scheme) where
 
   -- The first line is in form, and the second has too many digits, or an odd count of them.
   pub second_line : (text work : List ℕ) → is_line false (public_key_length 𝓢.shape) text ≡ true
-      → Misfits message_limit (length (line_of (after_line text))) → verify_card_answer 𝓢 text work ≡ TextForm 2
+      → Misfits message_limit (length (line_of (after_line text))) → verify_card_answer 𝓢 text work ≡ Err (TextForm 2)
   unfolding verify_card_answer check_lines require
   second_line text work first wrong = rw (first, no_line true message_limit (after_line text) wrong) refl
 

@@ -7,8 +7,7 @@ use lib.ListN.{length, take, drop, get_or, drop_of_length-le}
 use borrow.Rule.Slice.PartMut.{put_mid}
 use Rattle.slices.specs.Layout.{total}
 use Rattle.slices.proofs.Put.{Wrote, front, wrote_none, cut_long, wrote_lent}
-use Rattle.banquet.specs.declared.Answer.TheVariants.{Accepted}
-use Rattle.banquet.specs.Answer.{output_after}
+use Rattle.banquet.specs.Answer.{accepted, output_after}
 use Rattle.banquet.specs.Card.{decoded, line_of, decoded_lines}
 use Rattle.text_lines.specs.Lines.{line_end}
 use Rattle.text_lines.specs.Parts.{sizes_left}
@@ -19,13 +18,13 @@ use Rattle.text_lines.proofs.Checked.{checked, accepted_line}
 pub record Reading (message : ℕ) (sizes text d : List ℕ) (i at p : ℕ) (l : List ℕ) : Type 0 where
   pub upto : i ≤ length sizes
   pub inside : at ≤ length text
-  pub form : checked message sizes text i at ≡ Accepted
+  pub form : checked message sizes text i at ≡ accepted
   pub room : p + total (drop i sizes) ≤ length d
   pub bytes : List ℕ
   pub all : bytes ++ decoded_lines (length (drop i sizes)) (drop at text) ≡ decoded_lines (length sizes) text
   pub wrote : Wrote d bytes p l
 
-pub reading_none : (message : ℕ) (sizes text d : List ℕ) → checked message sizes text 0 0 ≡ Accepted → total sizes ≤ length d
+pub reading_none : (message : ℕ) (sizes text d : List ℕ) → checked message sizes text 0 0 ≡ accepted → total sizes ≤ length d
     → Reading message sizes text d 0 0 0 d
 reading_none message sizes text d h r = record {
   upto = omega arith;
@@ -38,7 +37,7 @@ reading_none message sizes text d h r = record {
 }
 
 module _ {message : ℕ} {sizes text d : List ℕ} {i at p : ℕ} {l : List ℕ} (r : Reading message sizes text d i at p l) where
-  pub reading_all : i ≡ length sizes → l ≡ output_after Accepted (decoded_lines (length sizes) text) d
+  pub reading_all : i ≡ length sizes → l ≡ output_after accepted (decoded_lines (length sizes) text) d
   unfolding front output_after decoded_lines
   reading_all h =
       let none : drop i sizes ≡ [] = drop_of_length-le sizes {i = i} (omega arith) in
@@ -47,7 +46,7 @@ module _ {message : ℕ} {sizes text d : List ℕ} {i at p : ℕ} {l : List ℕ}
 
   module _ {end : ℕ} (h : i < length sizes) (e : end ≡ at + line_end (drop at text)) where
     line : (end < length text) × (end - at ≡ 2 * ((end - at) / 2)) × ((end - at) / 2 ≤ get_or sizes i 0)
-        × (checked message sizes text (i + 1) (end + 1) ≡ Accepted)
+        × (checked message sizes text (i + 1) (end + 1) ≡ accepted)
     line = accepted_line message sizes text i at h r.inside e r.form
 
     left : total (drop i sizes) ≡ get_or sizes i 0 + total (drop (i + 1) sizes)

@@ -9,9 +9,8 @@ use Rattle.std.proofs.Math.Dec.{ltb}
 use Rattle.std.proofs.Math.Seq.{take-nil}
 use Rattle.slices.specs.Lists.{choose}
 use Rattle.slices.specs.Layout.{total}
-use Rattle.banquet.specs.declared.Answer.{Answer}
-use Rattle.banquet.specs.declared.Answer.TheVariants.{Accepted, TextForm}
-use Rattle.banquet.specs.Answer.{require}
+use Rattle.banquet.specs.declared.Refusal.TheVariants.{TextForm}
+use Rattle.banquet.specs.Answer.{Answer, accepted, require}
 use Rattle.banquet.specs.Card.{all_digits, line_of, after_line, has_size, is_line, check_lines}
 use Rattle.text_lines.specs.Form.{Broken, form_or_broken, line, form_length, form_most}
 
@@ -119,7 +118,7 @@ pub cut_answer : (sizes : List ℕ) (message k : ℕ) (text : List ℕ) (next : 
     → check_lines message sizes 1 (take k text) (next (take k text)) ≡ check_lines message sizes 1 text (next text)
 cut_answer sizes message k text next h = go (dec_lt (length text) k) (form_or_broken sizes message 1 text)
   where
-    go : Dec (length text < k) → (check_lines message sizes 1 text Accepted ≡ Accepted) ⊎ Broken (check_lines message sizes 1 text)
+    go : Dec (length text < k) → (check_lines message sizes 1 text accepted ≡ accepted) ⊎ Broken (check_lines message sizes 1 text)
         → check_lines message sizes 1 (take k text) (next (take k text)) ≡ check_lines message sizes 1 text (next text)
     go (yes l) f = ap (λ (t : List ℕ). check_lines message sizes 1 t (next t)) (take_all k text (omega arith))
     go (no l) (inl e) = absurd (omega (arith, form_length sizes message 1 text e, form_most sizes message 1 text e))

@@ -6,9 +6,8 @@ use Rattle.slices.specs.Lists.{choose}
 use Rattle.slices.specs.Layout.{total}
 use Rattle.slices.specs.Tests.{and_join}
 use Rattle.slices.specs.Bytes.{Bytes, tail_bytes, take_bytes, drop_bytes}
-use Rattle.banquet.specs.declared.Answer.{Answer}
-use Rattle.banquet.specs.declared.Answer.TheVariants.{TextForm}
-use Rattle.banquet.specs.Answer.{require}
+use Rattle.banquet.specs.declared.Refusal.TheVariants.{TextForm}
+use Rattle.banquet.specs.Answer.{Answer, require}
 use Rattle.banquet.specs.Card.{all_digits, decoded, digit_of, encoded, line_of, after_line, decoded_lines, encoded_lines, has_size, is_line, check_lines}
 use Rattle.hex_digits.specs.Hex.{digit_no_end, length_encoded, encoded_digits, decoded_encoded}
 
