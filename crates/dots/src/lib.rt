@@ -12,10 +12,11 @@ pub fn dot(bits: u32, low: u64, coefficients: &[u64], values: &[u64]) -> u64
     requires { Fits bits low × (length values.now ≤ length coefficients.now) }
     ensures { result ≡ dot_product bits low values.now coefficients.now }
 {
-    values
-        .iter()
-        .zip(coefficients)
-        .fold(0, |sum, (v, c)| sum ^ gf::mul(bits, low, *v, *c))
+    let mut sum = 0;
+    for (value, coefficient) in values.iter().zip(coefficients) {
+        sum ^= gf::mul(bits, low, *value, *coefficient);
+    }
+    sum
 }
 
 // The sum over k < rows of coefficient k times the lift of byte j + k m1, by the coefficients' tables.
@@ -25,8 +26,7 @@ pub fn dot_tables(tables: &[u64], bytes: &[u8], rows: usize, m1: usize, j: usize
 {
     let mut sum: u64 = 0;
     for k in 0..rows {
-        let b = bytes[j + k * m1];
-        sum = sum ^ entries(tables, k, b);
+        sum ^= entries(tables, k, bytes[j + k * m1]);
     }
     sum
 }
