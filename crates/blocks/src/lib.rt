@@ -4,15 +4,13 @@
 ghost use Rattle.std.specs.Prelude.{◌≡◌, ◌+◌, ◌*◌, ◌≤◌, length};
 ghost use Rattle.aes.specs.Aes.{add, block};
 
+use std::array;
+
 // 4.1, and 5.1.4 where b is a round key.
 pub fn add_blocks(a: [u8; 16], b: [u8; 16]) -> [u8; 16]
     ensures { result ≡ add 16 a b }
 {
-    let mut out = [0u8; 16];
-    for i in 0..16 {
-        out[i] = a[i] ^ b[i];
-    }
-    out
+    array::from_fn(|i| a[i] ^ b[i])
 }
 
 // Block n of s.
@@ -21,8 +19,7 @@ pub fn block_at(s: &[u8], n: usize) -> [u8; 16]
     ensures { result ≡ block s.now n }
 {
     let at = n * 16;
-    let end = at + 16;
     let mut out = [0u8; 16];
-    slices::copy(&mut out, &s[at..end]);
+    out.copy_from_slice(&s[at..at + 16]);
     out
 }

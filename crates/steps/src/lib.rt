@@ -6,17 +6,17 @@ ghost use Rattle.field.specs.Byte.{mul8};
 ghost use Rattle.aes.specs.Aes.{add, shift_rows, mix_columns};
 ghost use Rattle.steps.specs.Steps.{below, doubled_plus};
 
+use std::array;
+
 // 5.1.2: row r moves r columns to the left.
 fn shift_rows(s: [u8; 16]) -> [u8; 16]
     ensures { result ≡ shift_rows s }
 {
-    let mut out = [0u8; 16];
-    for i in 0..16 {
+    array::from_fn(|i| {
         let r = i % 4;
         let c = i / 4;
-        out[i] = s[r + 4 * ((c + r) % 4)];
-    }
-    out
+        s[r + 4 * ((c + r) % 4)]
+    })
 }
 
 // 4.2.1: 02 times a.
@@ -31,24 +31,18 @@ fn double(a: u8) -> u8
 fn below(x: [u8; 16]) -> [u8; 16]
     ensures { result ≡ below x }
 {
-    let mut out = [0u8; 16];
-    for i in 0..16 {
+    array::from_fn(|i| {
         let r = i % 4;
         let c = i / 4;
-        out[i] = x[(r + 1) % 4 + 4 * c];
-    }
-    out
+        x[(r + 1) % 4 + 4 * c]
+    })
 }
 
 // 02 u + t + v.
 fn doubled_plus(u: [u8; 16], t: [u8; 16], v: [u8; 16]) -> [u8; 16]
     ensures { result ≡ doubled_plus u t v }
 {
-    let mut out = [0u8; 16];
-    for i in 0..16 {
-        out[i] = double(u[i]) ^ t[i] ^ v[i];
-    }
-    out
+    array::from_fn(|i| double(u[i]) ^ t[i] ^ v[i])
 }
 
 // 5.1.3: 02 a + 03 b + c + d is 02 (a + b) + b + (c + d).

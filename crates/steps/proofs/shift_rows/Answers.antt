@@ -1,0 +1,8 @@
+use Rattle.std.proofs.Common.{rules, ◌+◌, ◌/◌, ◌%◌}
+use borrow.Author.Tests.{tests}
+use Rattle.blocks.proofs.FromFn.{from_fn_tab}
+use Rattle.aes.specs.Aes.{cell}
+use Rattle.steps.proofs.shift_rows.Goals as goal
+
+pub returns : goal.returns
+returns c = from_fn_tab (λ i. cell c.args.s (i % 4) ((i / 4 + i % 4) % 4)) (λ i y q k. search (rules, tests)) c.from_fn.ensures.items
