@@ -3,7 +3,7 @@
 use Rattle.std.specs.Prelude.{List, [], ◌∷◌, ℕ, ◌+◌, eqb, length, take, drop}
 use Rattle.slices.specs.Lists.{choose}
 use Rattle.banquet.specs.declared.Verdict.{Verdict}
-use Rattle.banquet.specs.declared.Answer.{Answer}
+use Rattle.banquet.specs.Answer.{Answer}
 use Rattle.banquet.specs.Scheme.{Scheme}
 use Rattle.banquet.specs.Key.{public_key_of}
 use Rattle.banquet.specs.Calls.{Written, written_after, public_key_answer}

@@ -1,4 +1,5 @@
 -- What the call answers, for document 01's set, and leaves in the output. Assumes nothing.
+use Rattle.std.specs.Prelude.{Ok, Err, IsErrAnd}
 use mathlib.Core.Path.{◌≡◌, refl, sym, ap, ◌∙◌}
 use mathlib.Core.Bool.{true}
 use mathlib.Core.List.{List, [], ◌++◌}
@@ -12,14 +13,13 @@ use Rattle.slices.proofs.Put.{front, front_none, front_more}
 use Rattle.aes.specs.Aes.{aes, sbox_inputs, first_zero}
 use Rattle.aes.proofs.Sizes.{length_sbox_inputs}
 use Rattle.aes.proofs.Zero.{first_zero_le}
-use Rattle.banquet.specs.declared.Answer.{Answer}
-use Rattle.banquet.specs.declared.Answer.TheVariants.{Accepted, ZeroInput}
+use Rattle.banquet.specs.declared.Refusal.{Refusal}
+use Rattle.banquet.specs.declared.Refusal.TheVariants.{ZeroInput}
 use Rattle.banquet.specs.Sets.{base, base_scheme}
-use Rattle.banquet.specs.Answer.{Test, require, in_order, output_after}
+use Rattle.banquet.specs.Answer.{Answer, Test, require, in_order, output_after}
 use Rattle.banquet.specs.Key.{public_key_of, check_inputs}
 use Rattle.banquet.specs.Calls.{public_key_tests, written, written_after, public_key_answer, make_public_key}
 use Rattle.banquet.proofs.Refusals.{test_at, passed_at}
-use Rattle.verdict.specs.Refusal.{Refusal}
 use Rattle.verdict.specs.Tests.{written_refused}
 
 -- ---- counts
@@ -37,21 +37,22 @@ module _ (key plaintext output : List ℕ) where
   abbrev pub tests : List Test
   tests = public_key_tests base (length key) (length plaintext) (length output)
 
-  pub refused : {a : Answer} → a ≡ in_order tests Accepted → Refusal a → written a output ≡ make_public_key base_scheme key plaintext output
+  pub refused : {a : Answer} → a ≡ in_order tests (Ok tt) → {refusal : Refusal} → a ≡ Err refusal → {r : Answer} → IsErrAnd r (λ e. e ≡ refusal)
+      → written r output ≡ make_public_key base_scheme key plaintext output
   unfolding public_key_answer
-  refused is h =
-      written_refused tests refl is h (check_inputs base_scheme plaintext key Accepted) (public_key_of base_scheme key plaintext) output
+  refused is h up =
+      written_refused tests refl is h up (check_inputs base_scheme plaintext key (Ok tt)) (public_key_of base_scheme key plaintext) output
 
   -- ---- every length is right
 
   module _ (right : (k : ℕ) → test_at tests k ≡ true) where
-    answered : {a : Answer} {out : List ℕ} → check_inputs base_scheme plaintext key Accepted ≡ a
+    answered : {a : Answer} {out : List ℕ} → check_inputs base_scheme plaintext key (Ok tt) ≡ a
         → out ≡ output_after a (public_key_of base_scheme key plaintext) output → written a out ≡ make_public_key base_scheme key plaintext output
     unfolding public_key_answer
     answered {a} e w =
         ap (written a) w
         ∙ ap (λ (a : Answer). written_after a (public_key_of base_scheme key plaintext) output)
-        (sym (passed_at tests (check_inputs base_scheme plaintext key Accepted) right ∙ e))
+        (sym (passed_at tests (check_inputs base_scheme plaintext key (Ok tt)) right ∙ e))
 
     -- n is the first zero of all 200 inputs
     module _ {inputs : List ℕ} {n : ℕ} (given : inputs ≡ sbox_inputs key plaintext) (found : n ≡ first_zero (take 200 inputs)) where
@@ -60,11 +61,11 @@ module _ (key plaintext output : List ℕ) where
           found ∙ ap (λ (s : List ℕ). first_zero (take 200 s)) given
           ∙ ap first_zero (take_all 200 (sbox_inputs key plaintext) (omega (arith, length_sbox_inputs key plaintext)))
 
-      pub zero_refused : n < 200 → written (ZeroInput n) output ≡ make_public_key base_scheme key plaintext output
+      pub zero_refused : n < 200 → written (Err (ZeroInput n)) output ≡ make_public_key base_scheme key plaintext output
       unfolding check_inputs require output_after
       zero_refused z = answered (simp (← all_tested, ne_eqb n 200 (λ h. omega (arith, h, z)))) refl
 
-      no_zero : 200 ≤ n → check_inputs base_scheme plaintext key Accepted ≡ Accepted
+      no_zero : 200 ≤ n → check_inputs base_scheme plaintext key (Ok tt) ≡ Ok tt
       unfolding check_inputs require
       no_zero z =
           let none : n ≡ 200 = omega (arith, all_tested, first_zero_le (sbox_inputs key plaintext), length_sbox_inputs key plaintext) in
@@ -72,7 +73,7 @@ module _ (key plaintext output : List ℕ) where
 
       -- the plaintext is written and then the ciphertext
       pub accepted : {ciphertext l r : List ℕ} → 200 ≤ n → ciphertext ≡ aes key plaintext → l ≡ put output 0 plaintext
-          → r ≡ put l 16 ciphertext → written Accepted r ≡ make_public_key base_scheme key plaintext output
+          → r ≡ put l 16 ciphertext → written (Ok tt) r ≡ make_public_key base_scheme key plaintext output
       unfolding output_after public_key_of front
       accepted {ciphertext} z c w v =
           let first = front_more [] output plaintext (front_none output) refl w in
