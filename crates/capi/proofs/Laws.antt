@@ -2,7 +2,7 @@
 use mathlib.Core.Path.{◌≡◌, ap, ◌∙◌}
 use mathlib.Core.List.{List, [], ◌∷◌}
 use Prim.Native.Nat.{ℕ}
-use Rattle.banquet.specs.declared.Answer.{Answer}
+use Rattle.banquet.specs.Answer.{Answer}
 use Rattle.banquet.specs.Calls.{Written, Checked, Made, written, checked, made}
 use Rattle.verdict.specs.Code.{code_of, told, told_written, told_checked, told_made}
 

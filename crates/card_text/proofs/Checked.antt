@@ -1,4 +1,5 @@
 -- A card's text by what `read_lines` told of it and what `check` answered to its parts. Assumes nothing.
+use Rattle.std.specs.Prelude.{Err, IsErrAnd}
 use mathlib.Core.Path.{◌≡◌, sym, ap, ◌∙◌}
 use mathlib.Core.List.{List}
 use Prim.Native.Nat.{ℕ, ◌+◌, ◌-◌, ◌/◌, ◌≤◌, ◌<◌}
@@ -7,14 +8,12 @@ use native.Mathlib.Omega.{arith}
 use lib.ListN.{length, take, drop}
 use Rattle.slices.specs.Layout.{total}
 use Rattle.banquet.specs.declared.Shape.{Shape}
-use Rattle.banquet.specs.declared.Answer.{Answer}
-use Rattle.banquet.specs.declared.Answer.TheVariants.{Accepted}
 use Rattle.banquet.specs.Shape.{message_limit, public_key_length, signature_length}
-use Rattle.banquet.specs.Answer.{output_after}
+use Rattle.banquet.specs.declared.Refusal.{Refusal}
+use Rattle.banquet.specs.Answer.{Answer, accepted, output_after}
 use Rattle.banquet.specs.Calls.{checked, checked_after, verify}
 use Rattle.banquet.specs.Card.{decoded, line_of, after_line, decoded_lines, check_lines, card_sizes, verify_card}
 use Rattle.banquet.specs.Sets.{scheme_of}
-use Rattle.verdict.specs.Refusal.{Refusal}
 use Rattle.card_sizes.specs.Lines.{lines_of, card_bytes, sizes_many, sizes_total, sizes_lent}
 use Rattle.card_text.specs.Reading.{form, card_broken, text_long, message_long, form_answer, key_part, message_part, signature_part}
 
@@ -34,17 +33,18 @@ module _ (S : Shape) {lines : ℕ} (sizes : List ℕ) (l : lines ≡ lines_of S)
 pub record Told (S : Shape) (text : List ℕ) (lines : ℕ) (sizes : List ℕ) (a : Answer) : Type 0 where
   pub many : lines ≡ lines_of S
   pub are : take (lines_of S) sizes ≡ card_sizes S message_limit
-  pub answer : a ≡ check_lines 2 (take (lines - 0) sizes) 1 text Accepted
+  pub answer : a ≡ check_lines 2 (take (lines - 0) sizes) 1 text accepted
 
 module _ {S : Shape} {text : List ℕ} {lines : ℕ} {sizes : List ℕ} {a : Answer} (t : Told S text lines sizes a) where
   answer_is : a ≡ form (scheme_of S) text
-  answer_is = t.answer ∙ ap (λ (s : List ℕ). check_lines 2 s 1 text Accepted) (own_is S sizes t.many t.are)
+  answer_is = t.answer ∙ ap (λ (s : List ℕ). check_lines 2 s 1 text accepted) (own_is S sizes t.many t.are)
 
-  pub card_refused : (work : List ℕ) → Refusal a → checked a work ≡ verify_card (scheme_of S) text work
-  card_refused work r = card_broken (scheme_of S) text work answer_is r
+  pub card_refused : (work : List ℕ) {refusal : Refusal} → a ≡ Err refusal → {r : Answer} → IsErrAnd r (λ e. e ≡ refusal)
+      → checked r work ≡ verify_card (scheme_of S) text work
+  card_refused work h up = card_broken (scheme_of S) text work answer_is h up
 
-  module _ (h : a ≡ Accepted) where
-    held : form (scheme_of S) text ≡ Accepted
+  module _ (h : a ≡ accepted) where
+    held : form (scheme_of S) text ≡ accepted
     held = sym answer_is ∙ h
 
     abbrev message : List ℕ
@@ -81,9 +81,9 @@ module _ {S : Shape} {text : List ℕ} {lines : ℕ} {sizes : List ℕ} {a : Ans
           → checked r left ≡ verify_card (scheme_of S) text work
       card_checked work bytes d b answered =
           let to : end ≡ start + signature_length S = omega (arith, end_is, s) in
-          let read : bytes ≡ output_after Accepted (decoded_lines (lines_of S) text) d =
+          let read : bytes ≡ output_after accepted (decoded_lines (lines_of S) text) d =
           b ∙ ap (λ (x : Answer). output_after x (decoded_lines (length (take (lines - 0) sizes)) text) d) h
-          ∙ ap (λ (n : ℕ). output_after Accepted (decoded_lines n text) d) (own_many S sizes t.many t.are) in
+          ∙ ap (λ (n : ℕ). output_after accepted (decoded_lines n text) d) (own_many S sizes t.many t.are) in
           let first = ap (λ (n : ℕ). take n bytes) (sub-zero key) ∙ key_part (scheme_of S) text held bytes d read k start_is to in
           let second = message_part (scheme_of S) text held bytes d read k start_is to in
           let third = signature_part (scheme_of S) text held bytes d read k start_is to in

@@ -1,20 +1,19 @@
 -- What is known of a card, of any scheme, when its form has been checked and its bytes have been read. Assumes nothing.
-use Rattle.std.specs.Prelude.{◌≡◌, refl, length, take, drop, replicate}
+use Rattle.std.specs.Prelude.{◌≡◌, refl, Err, IsErrAnd, length, take, drop, replicate}
 use Rattle.std.proofs.Math.Path.{sym, ap, ap₂}
-use Rattle.std.proofs.Common.{subst, ◌∙◌, lit<, length-append, take_at}
+use Rattle.std.proofs.Common.{◌∙◌, lit<, length-append, take_at}
 use mathlib.Core.List.{List, ◌∷◌, ◌++◌, append_assoc}
 use Prim.Native.Nat.{ℕ, suc, ◌+◌, ◌-◌, ◌*◌, ◌≤◌}
 use native.Mathlib.Omega.{arith}
 use Rattle.std.proofs.lemmas.List.{length-replicate}
 use Rattle.slices.specs.Layout.{total}
-use Rattle.banquet.specs.declared.Answer.{Answer}
-use Rattle.banquet.specs.declared.Answer.TheVariants.{Accepted}
 use Rattle.banquet.specs.Shape.{message_limit, public_key_length, head_length, frame_sizes, signature_length}
 use Rattle.banquet.specs.Scheme.{Scheme}
-use Rattle.banquet.specs.Answer.{work_after, output_after}
+use Rattle.banquet.specs.declared.Refusal.{Refusal}
+use Rattle.banquet.specs.Answer.{Answer, accepted, work_after, output_after}
 use Rattle.banquet.specs.Calls.{checked, verify_answer}
 use Rattle.banquet.specs.Card.{decoded, line_of, after_line, decoded_line, decoded_lines, check_lines, card_sizes, verify_card, verify_card_answer}
-use Rattle.verdict.specs.Refusal.{Refusal}
+use Rattle.verdict.specs.Tests.{returned}
 use Rattle.text_lines.specs.Form.{broken, first_line, other_lines, in_form, form_length, form_exact}
 use Rattle.text_lines.specs.Parts.{middle, total_replicate}
 use Rattle.card_sizes.specs.Lines.{lines_of, card_bytes, sizes_many}
@@ -23,20 +22,21 @@ module _ (𝓢 : Scheme) where
   open 𝓢.shape use {executions}
 
   abbrev pub form : List ℕ → Answer
-  form text = check_lines 2 (card_sizes 𝓢.shape message_limit) 1 text Accepted
+  form text = check_lines 2 (card_sizes 𝓢.shape message_limit) 1 text accepted
 
   -- ---- a text that breaks its form
 
-  pub card_broken : (text work : List ℕ) {a : Answer} → a ≡ form text → Refusal a → checked a work ≡ verify_card 𝓢 text work
+  pub card_broken : (text work : List ℕ) {a : Answer} → a ≡ form text → {refusal : Refusal} → a ≡ Err refusal
+      → {r : Answer} → IsErrAnd r (λ e. e ≡ refusal) → checked r work ≡ verify_card 𝓢 text work
   unfolding verify_card_answer
-  card_broken text work e h =
-      let b = broken (card_sizes 𝓢.shape message_limit) 2 1 text (subst Refusal e h) in
+  card_broken text work e h {r} up =
+      let b = broken (card_sizes 𝓢.shape message_limit) 2 1 text (sym e ∙ h) in
       let answer : verify_card_answer 𝓢 text work ≡ form text = b.answer _ in
-      ap₂ checked (e ∙ sym answer) (sym (b.work work) ∙ ap (λ (x : Answer). work_after x work) (sym answer))
+      ap₂ checked (returned r up ∙ sym h ∙ e ∙ sym answer) (sym (b.work work) ∙ ap (λ (x : Answer). work_after x work) (sym answer))
 
   -- ---- a text in form
 
-  module _ (text : List ℕ) (h : form text ≡ Accepted) where
+  module _ (text : List ℕ) (h : form text ≡ accepted) where
     abbrev rest : List ℕ
     rest = after_line text
 
@@ -52,7 +52,7 @@ module _ (𝓢 : Scheme) where
     abbrev sizes : List ℕ
     sizes = head_length ∷ replicate executions (total (frame_sizes 𝓢.shape))
 
-    others : check_lines 2 (message_limit ∷ sizes) 2 rest Accepted ≡ Accepted
+    others : check_lines 2 (message_limit ∷ sizes) 2 rest accepted ≡ accepted
     others = other_lines 2 (public_key_length 𝓢.shape) (message_limit ∷ sizes) 1 text h
 
     key_long : length key ≡ public_key_length 𝓢.shape
@@ -96,7 +96,7 @@ module _ (𝓢 : Scheme) where
     form_answer work = in_form (card_sizes 𝓢.shape message_limit) 2 1 text h _
 
     -- the parts of what was read: the message begins at a, the signature at b, and it ends at c
-    module _ (bytes d : List ℕ) (e : bytes ≡ output_after Accepted (decoded_lines (lines_of 𝓢.shape) text) d) {a b c : ℕ}
+    module _ (bytes d : List ℕ) (e : bytes ≡ output_after accepted (decoded_lines (lines_of 𝓢.shape) text) d) {a b c : ℕ}
         (first : a ≡ public_key_length 𝓢.shape) (second : b ≡ a + length message) (third : c ≡ b + signature_length 𝓢.shape) where
       left : List ℕ
       left = drop (length (decoded_lines (lines_of 𝓢.shape) text)) d

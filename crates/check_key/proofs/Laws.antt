@@ -1,5 +1,6 @@
 -- The plaintext and the ciphertext as the code takes them, the S-boxes' inputs and their inverses, what the first zero says, and the answers.
 -- Assumes nothing.
+use Rattle.std.specs.Prelude.{Err}
 use mathlib.Core.Path.{◌≡◌, sym, ap, ap₂, ◌∙◌}
 use mathlib.Core.Bool.{Bool}
 use mathlib.Core.List.{List, map}
@@ -14,12 +15,11 @@ use Rattle.aes.specs.Aes.{aes, sbox_inputs, first_zero}
 use Rattle.aes.proofs.Sizes.{length_sbox_inputs}
 use Rattle.aes.proofs.Zero.{first_zero_le}
 use Rattle.banquet.specs.declared.Shape.{Shape}
-use Rattle.banquet.specs.declared.Answer.{Answer}
-use Rattle.banquet.specs.declared.Answer.TheVariants.{Accepted, ZeroInput, WrongKey}
+use Rattle.banquet.specs.declared.Refusal.TheVariants.{ZeroInput, WrongKey}
 use Rattle.banquet.specs.Shape.{sboxes, public_key_length}
 use Rattle.banquet.specs.Scheme.{Circuit, true_inverses}
 use Rattle.banquet.specs.Sets.{scheme_of}
-use Rattle.banquet.specs.Answer.{require}
+use Rattle.banquet.specs.Answer.{Answer, accepted, require}
 use Rattle.banquet.specs.Key.{zero_input, front_of, ciphertext_of, check_inputs, check_key}
 use Rattle.sets.specs.Valid.{Valid}
 use Rattle.sets.specs.PublicKey.{front_long}
@@ -38,7 +38,7 @@ module _ {S : Shape} (v : Valid S) (key public : List ℕ) where
       (inverted : inverses ≡ map inverse8 inputs) where
     abbrev pub Answered : Answer → Type 0
     Answered a =
-        (a ≡ check_key (scheme_of S) public key Accepted)
+        (a ≡ check_key (scheme_of S) public key accepted)
         × ((inputs ≡ (scheme_of S).circuit.sbox_inputs front key) × (inverses ≡ true_inverses (scheme_of S) front key))
 
     inputs_right : inputs ≡ (scheme_of S).circuit.sbox_inputs front key
@@ -56,7 +56,7 @@ module _ {S : Shape} (v : Valid S) (key public : List ℕ) where
       zero_found : n ≡ zero_input (scheme_of S) front key
       zero_found = all_tested ∙ ap first_zero inputs_right
 
-      pub zero_refused : n < k → Answered (ZeroInput n)
+      pub zero_refused : n < k → Answered (Err (ZeroInput n))
       unfolding check_key check_inputs require
       zero_refused z = (simp (← zero_found, ne_eqb n (sboxes S) (λ h. omega (arith, h, z, all))), both_right)
 
@@ -71,6 +71,6 @@ module _ {S : Shape} (v : Valid S) (key public : List ℕ) where
         tested =
             sym (test ∙ ap₂ same (is ∙ ap (aes key) front_is ∙ ap (λ (c : Circuit). c.encrypt front key) (sym (circuit_is v))) stated_is)
 
-        pub compared : {u : Bool} → t ≡ u → Answered (require u WrongKey Accepted)
+        pub compared : {u : Bool} → t ≡ u → Answered (require u WrongKey accepted)
         unfolding check_key check_inputs require
         compared h = (simp (← zero_found, eq-eqb n (sboxes S) all_found, tested ∙ h), both_right)

@@ -1,4 +1,5 @@
 -- The call, which refuses by lengths first, and the parts of an opening as the code has them. Assumes nothing.
+use Rattle.std.specs.Prelude.{Err, IsErrAnd}
 use mathlib.Core.Path.{◌≡◌, refl, sym, ap, ◌∙◌}
 use mathlib.Core.Bool.{true}
 use mathlib.Core.List.{List}
@@ -10,15 +11,13 @@ use lib.Seq.{take_all, length-take-le}
 use borrow.Author.Tests.{eqb-true}
 use Rattle.slices.specs.Layout.{total}
 use Rattle.banquet.specs.declared.Shape.{Shape}
-use Rattle.banquet.specs.declared.Answer.{Answer}
-use Rattle.banquet.specs.declared.Answer.TheVariants.{Accepted}
 use Rattle.banquet.specs.Shape.{transcript_sizes, opening_length}
 use Rattle.banquet.specs.Sets.{scheme_of}
-use Rattle.banquet.specs.Answer.{Test, in_order}
+use Rattle.banquet.specs.declared.Refusal.{Refusal}
+use Rattle.banquet.specs.Answer.{Answer, accepted, Test, in_order}
 use Rattle.banquet.specs.Opening.{transcript_of, hidden_of, siblings_of, check_opening}
 use Rattle.banquet.specs.Calls.{verify_opening_tests, checked, checked_after, verify_opening_answer, verify_opening, Checked}
 use Rattle.banquet.proofs.Refusals.{test_at, passed_at}
-use Rattle.verdict.specs.Refusal.{Refusal}
 use Rattle.verdict.specs.Tests.{checked_refused}
 
 module _ (S : Shape) (public_key o work : List ℕ) where
@@ -30,9 +29,10 @@ module _ (S : Shape) (public_key o work : List ℕ) where
   abbrev inner : Answer
   inner = check_opening (scheme_of S) public_key (transcript_of (scheme_of S) o) (hidden_of (scheme_of S) o) (siblings_of (scheme_of S) o)
 
-  pub refused : {a : Answer} → a ≡ in_order tests Accepted → Refusal a → checked a work ≡ verify_opening (scheme_of S) public_key o work
+  pub refused : {a : Answer} → a ≡ in_order tests accepted → {refusal : Refusal} → a ≡ Err refusal → {r : Answer} → IsErrAnd r (λ e. e ≡ refusal)
+      → checked r work ≡ verify_opening (scheme_of S) public_key o work
   unfolding verify_opening_answer
-  refused is h = checked_refused tests refl is h inner work
+  refused is h up = checked_refused tests refl is h up inner work
 
   module _ (right : (k : ℕ) → test_at tests k ≡ true) {end : ℕ} (is : end ≡ total (transcript_sizes S)) where
     file : length o ≡ opening_length S

@@ -1,4 +1,5 @@
 -- Number 13, and the seeds under which the shown parties are checked. Assumes nothing.
+use Rattle.std.specs.Prelude.{Err}
 use mathlib.Core.Path.{◌≡◌, refl, sym, ap, ap₂, ◌∙◌}
 use mathlib.Core.Bool.{◌||◌}
 use mathlib.Core.List.{List}
@@ -12,8 +13,8 @@ use Rattle.slices.proofs.Rows.{row_front}
 use Rattle.shake.specs.Shake128.{shake128}
 use Rattle.compare.specs.Lowest.{lowest, lowest_cong}
 use Rattle.banquet.specs.declared.Shape.{Shape}
-use Rattle.banquet.specs.declared.Answer.{Answer}
-use Rattle.banquet.specs.declared.Answer.TheVariants.{CommitmentDiffers, ShareDiffers}
+use Rattle.banquet.specs.Answer.{Answer}
+use Rattle.banquet.specs.declared.Refusal.TheVariants.{CommitmentDiffers, ShareDiffers}
 use Rattle.banquet.specs.Sets.{scheme_of}
 use Rattle.banquet.specs.Hash.{commitment}
 use Rattle.banquet.specs.Tree.{node_seeds, shown_leaves}
@@ -52,7 +53,7 @@ module _ {S : Shape} {public_key t : List ℕ} {e second : ℕ} (g : Given S pub
         (λ (x : ℕ) (s : List ℕ). eqb i hidden || same (commitment (scheme_of S) (salt_of (scheme_of S) t) x i s) (commitment_of (scheme_of S) t i))
         g.e_is (seed_is i l))
 
-    pub commitment_refused : found < parties → CommitmentDiffers found ≡ check_parties (scheme_of S) public_key t hidden shown
+    pub commitment_refused : found < parties → Err (CommitmentDiffers found) ≡ check_parties (scheme_of S) public_key t hidden shown
     unfolding check_parties
     commitment_refused l = sym (each_found _ CommitmentDiffers _ parties tested l)
 

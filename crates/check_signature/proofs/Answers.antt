@@ -1,4 +1,5 @@
 -- The answers of the call: number 15 by the lowest execution whose product fails, and what the call leaves. Assumes nothing.
+use Rattle.std.specs.Prelude.{Err, IsErrAnd}
 use mathlib.Core.Path.{◌≡◌, refl, sym, ap, ◌∙◌}
 use mathlib.Core.Bool.{true}
 use mathlib.Core.List.{List}
@@ -6,14 +7,13 @@ use Prim.Native.Nat.{ℕ, ◌<◌, ◌≤◌}
 use lib.ListN.{length}
 use Rattle.compare.specs.Lowest.{lowest}
 use Rattle.banquet.specs.declared.Shape.{Shape}
-use Rattle.banquet.specs.declared.Answer.{Answer}
-use Rattle.banquet.specs.declared.Answer.TheVariants.{Accepted, ProductDiffers}
+use Rattle.banquet.specs.declared.Refusal.{Refusal}
+use Rattle.banquet.specs.declared.Refusal.TheVariants.{ProductDiffers}
 use Rattle.banquet.specs.Sets.{scheme_of}
-use Rattle.banquet.specs.Answer.{Test, in_order, cleared}
+use Rattle.banquet.specs.Answer.{Answer, accepted, Test, in_order, cleared}
 use Rattle.banquet.specs.Signature.{frame_of, frame_holds, check_signature}
 use Rattle.banquet.specs.Calls.{verify_tests, checked, checked_after, verify_answer, verify}
 use Rattle.banquet.proofs.Refusals.{test_at, passed_at}
-use Rattle.verdict.specs.Refusal.{Refusal}
 use Rattle.verdict.specs.Tests.{checked_refused}
 use Rattle.scratch.specs.Scratch.{Scratch}
 use Rattle.scratch.specs.Each.{each_found, each_none}
@@ -25,7 +25,7 @@ module _ (S : Shape) (public_key message s : List ℕ) where
 
   -- found is the lowest execution whose product fails
   module _ {found : ℕ} (f : found ≡ lowest executions 0 (λ e. frame_holds (scheme_of S) (frame_of (scheme_of S) s e))) where
-    pub product_refused : found < executions → ProductDiffers found ≡ signature_answer S public_key message s
+    pub product_refused : found < executions → Err (ProductDiffers found) ≡ signature_answer S public_key message s
     unfolding check_signature
     product_refused l = sym (each_found _ ProductDiffers _ executions f l)
 
@@ -46,9 +46,10 @@ module _ (S : Shape) (public_key message s : List ℕ) where
     abbrev pub tests : List Test
     tests = verify_tests S (length public_key) (length message) (length s) (length work)
 
-    pub refused : {a : Answer} → a ≡ in_order tests Accepted → Refusal a → checked a work ≡ verify (scheme_of S) public_key message s work
+    pub refused : {a : Answer} → a ≡ in_order tests accepted → {refusal : Refusal} → a ≡ Err refusal → {r : Answer} → IsErrAnd r (λ e. e ≡ refusal)
+        → checked r work ≡ verify (scheme_of S) public_key message s work
     unfolding verify_answer
-    refused is h = checked_refused tests refl is h (signature_answer S public_key message s) work
+    refused is h up = checked_refused tests refl is h up (signature_answer S public_key message s) work
 
     pub answered : ((k : ℕ) → test_at tests k ≡ true) → {r : Answer} {u w : List ℕ} → r ≡ signature_answer S public_key message s → Scratch work u
         → w ≡ cleared u → checked r w ≡ verify (scheme_of S) public_key message s work

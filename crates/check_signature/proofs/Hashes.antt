@@ -1,4 +1,5 @@
 -- A test that two lists are the same, as the code makes it; and the hashes recomputed, from what is absorbed. Assumes nothing.
+use Rattle.std.specs.Prelude.{Err}
 use mathlib.Core.Path.{◌≡◌, sym, ap, ap₂, ◌∙◌}
 use mathlib.Core.Bool.{Bool, true, false}
 use mathlib.Core.List.{List, [], ◌∷◌}
@@ -13,11 +14,11 @@ use Rattle.absorb_rows.proofs.Laws.{hashed}
 use Rattle.stream.specs.declared.Sponge.{Sponge}
 use Rattle.stream.specs.Stream.{empty, absorbed, finished, squeezed}
 use Rattle.banquet.specs.declared.Shape.{Shape}
-use Rattle.banquet.specs.declared.Answer.{Answer}
-use Rattle.banquet.specs.declared.Answer.TheVariants.{Accepted, FirstHashDiffers, ThirdHashDiffers}
+use Rattle.banquet.specs.declared.Refusal.{Refusal}
+use Rattle.banquet.specs.declared.Refusal.TheVariants.{FirstHashDiffers, ThirdHashDiffers}
 use Rattle.banquet.specs.Sets.{scheme_of}
 use Rattle.banquet.specs.Shape.{head_sizes}
-use Rattle.banquet.specs.Answer.{require, in_order}
+use Rattle.banquet.specs.Answer.{Answer, accepted, require, in_order}
 use Rattle.banquet.specs.Hash.{first_input, first_hash, third_hash}
 use Rattle.banquet.specs.Signature.{signature_salt, signature_h1, signature_h3, frame_of, recomputed_h1, recomputed_h3}
 use Rattle.second_hash.proofs.Laws.{sized_second}
@@ -26,11 +27,11 @@ use Rattle.check_signature.proofs.Parts.{first_bytes_lem, third_bytes}
 
 -- ---- the test
 
-module _ {h g' : List ℕ} {x : Bool} (u g : List ℕ) (refusal rest : Answer) (e : h ≡ u) (k : g' ≡ g) (f : x ≡ same h g') where
+module _ {h g' : List ℕ} {x : Bool} (u g : List ℕ) (refusal : Refusal) (rest : Answer) (e : h ≡ u) (k : g' ≡ g) (f : x ≡ same h g') where
   tested : same u g ≡ x
   tested = ap₂ same (sym e) (sym k) ∙ sym f
 
-  pub refused : x ≡ false → refusal ≡ require (same u g) refusal rest
+  pub refused : x ≡ false → Err refusal ≡ require (same u g) refusal rest
   unfolding require
   refused n = sym (simp (tested, n))
 
@@ -73,7 +74,7 @@ module _ {S : Shape} {public_key message s : List ℕ} (f : Files S public_key s
 
   -- both tests
   pub hashes_tested : {u v : List ℕ} → u ≡ first → v ≡ third
-      → in_order ((same u (signature_h1 s), FirstHashDiffers) ∷ (same v (signature_h3 s), ThirdHashDiffers) ∷ []) Accepted
+      → in_order ((same u (signature_h1 s), FirstHashDiffers) ∷ (same v (signature_h3 s), ThirdHashDiffers) ∷ []) accepted
       ≡ hashes_answer S public_key message s
   hashes_tested p q =
-      ap₂ (λ u v. in_order ((same u (signature_h1 s), FirstHashDiffers) ∷ (same v (signature_h3 s), ThirdHashDiffers) ∷ []) Accepted) p q
+      ap₂ (λ u v. in_order ((same u (signature_h1 s), FirstHashDiffers) ∷ (same v (signature_h3 s), ThirdHashDiffers) ∷ []) accepted) p q

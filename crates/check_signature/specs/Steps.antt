@@ -4,10 +4,8 @@ use Rattle.slices.specs.Bytes.{Sized}
 use Rattle.shake.specs.Shake128.{shake128}
 use Rattle.banquet.specs.declared.Shape.{Shape}
 use Rattle.banquet.specs.Shape.{public_key_length, first_challenge_length, signature_length}
-use Rattle.banquet.specs.declared.Answer.{Answer}
-use Rattle.banquet.specs.declared.Answer.TheVariants.{Accepted}
 use Rattle.banquet.specs.Sets.{scheme_of}
-use Rattle.banquet.specs.Answer.{in_order}
+use Rattle.banquet.specs.Answer.{Answer, accepted, in_order}
 use Rattle.banquet.specs.Hash.{second_hash}
 use Rattle.banquet.specs.Signature.{
   signature_salt,
@@ -51,7 +49,7 @@ module _ (S : Shape) (s : List ℕ) where
 module _ (S : Shape) (public_key message s : List ℕ) where
   abbrev pub hashes_answer : Answer
   hashes_answer =
-      in_order (hash_tests (scheme_of S) public_key message (signature_salt s) (signature_h1 s) (signature_h3 s) (frame_of (scheme_of S) s)) Accepted
+      in_order (hash_tests (scheme_of S) public_key message (signature_salt s) (signature_h1 s) (signature_h3 s) (frame_of (scheme_of S) s)) accepted
 
   abbrev pub signature_answer : Answer
   signature_answer = check_signature (scheme_of S) public_key message (signature_salt s) (signature_h1 s) (signature_h3 s) (frame_of (scheme_of S) s)

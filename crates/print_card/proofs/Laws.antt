@@ -4,9 +4,8 @@ use mathlib.Core.List.{List, ◌++◌}
 use Prim.Native.Nat.{ℕ}
 use lib.ListN.{length, drop, replicate}
 use Rattle.banquet.specs.declared.Verdict.{Verdict}
-use Rattle.banquet.specs.declared.Answer.{Answer}
 use Rattle.banquet.specs.Shape.{work_length}
-use Rattle.banquet.specs.Answer.{verdict_of}
+use Rattle.banquet.specs.Answer.{Answer, verdict_of}
 use Rattle.banquet.specs.Calls.{Checked, checked}
 use Rattle.banquet.specs.Card.{verify_card, printed, card_output}
 use Rattle.banquet.specs.Sets.{base_scheme}

@@ -4,10 +4,8 @@ use Rattle.std.proofs.Common.{sym, ap, ◌∙◌, inl, inr, arith, take_all}
 use Rattle.std.proofs.Math.Decide.{dec_lt}
 use Rattle.slices.specs.Lists.{choose}
 use Rattle.slices.specs.Bytes.{Bytes, nil_bytes}
-use Rattle.banquet.specs.declared.Answer.{Answer}
-use Rattle.banquet.specs.declared.Answer.TheVariants.{Accepted}
 use Rattle.banquet.specs.Shape.{message_limit, work_length, signature_length}
-use Rattle.banquet.specs.Answer.{verdict_of}
+use Rattle.banquet.specs.Answer.{Answer, accepted, verdict_of}
 use Rattle.banquet.specs.Signature.{signature}
 use Rattle.banquet.specs.Calls.{sign_answer}
 use Rattle.banquet.specs.Card.{after_line, line_of, decoded_line, check_lines, card_text, accepted_word, printed, card_output}
@@ -39,7 +37,7 @@ card text =
     (signature base_scheme (decoded_line 1 text) (decoded_line 2 text) (decoded_line 3 text) (decoded_line 4 text) (decoded_line 5 text))
 
 -- Of what is written for a request that isn't refused the card program prints `accepted`.
-pub request_accepted : (text : List ℕ) → request_answer base_scheme text ≡ Accepted
+pub request_accepted : (text : List ℕ) → request_answer base_scheme text ≡ accepted
     → card_output base_scheme (request_output base_scheme text) ≡ accepted_word ++ (0x0a ∷ [])
 unfolding request_answer request_output
 request_accepted text acc =
@@ -64,7 +62,7 @@ request_cut text = go (dec_lt (length text) read_most) (form_or_broken sizes 3 1
     same : request_answer base_scheme (take read_most text) ≡ request_answer base_scheme text
     same = cut_answer sizes 3 read_most text asked (omega arith)
 
-    go : Dec (length text < read_most) → (check_lines 3 sizes 1 text Accepted ≡ Accepted) ⊎ Broken (check_lines 3 sizes 1 text)
+    go : Dec (length text < read_most) → (check_lines 3 sizes 1 text accepted ≡ accepted) ⊎ Broken (check_lines 3 sizes 1 text)
         → request_output base_scheme (take read_most text) ≡ request_output base_scheme text
     go (yes l) f = ap (request_output base_scheme) (take_all read_most text (omega arith))
     go (no l) (inl e) = absurd (omega (arith, form_length sizes 3 1 text e, form_most sizes 3 1 text e))

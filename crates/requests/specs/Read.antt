@@ -1,11 +1,9 @@
 -- A request in form whose bytes have been read: where its parts lie, and what they are. Assumes nothing.
 use Rattle.std.specs.Prelude.{◌≡◌, List, ◌++◌, ℕ, ◌+◌, ◌-◌, ◌/◌, ◌≤◌, length, take, drop}
 use Rattle.std.proofs.Common.{sym, ap, ◌∙◌, arith, length-append}
-use Rattle.banquet.specs.declared.Answer.{Answer}
-use Rattle.banquet.specs.declared.Answer.TheVariants.{Accepted}
 use Rattle.banquet.specs.Shape.{message_limit, public_key_length, root_seeds_length}
 use Rattle.banquet.specs.Scheme.{Scheme}
-use Rattle.banquet.specs.Answer.{output_after}
+use Rattle.banquet.specs.Answer.{Answer, accepted, output_after}
 use Rattle.banquet.specs.Card.{decoded_line, decoded_lines}
 use Rattle.requests.specs.Reading.{
   form,
@@ -21,12 +19,12 @@ use Rattle.requests.specs.Reading.{
 
 -- `request` has what its text stands for
 pub record Read (𝓢 : Scheme) (text request : List ℕ) : Type 0 where
-  pub in_form : form 𝓢 text ≡ Accepted
+  pub in_form : form 𝓢 text ≡ accepted
   pub behind : List ℕ
   pub bytes : request ≡ decoded_lines 5 text ++ behind
 
 -- as `read_lines` tells it
-pub read : (𝓢 : Scheme) (text request d : List ℕ) {a : Answer} → a ≡ form 𝓢 text → request ≡ output_after a (decoded_lines 5 text) d → a ≡ Accepted
+pub read : (𝓢 : Scheme) (text request d : List ℕ) {a : Answer} → a ≡ form 𝓢 text → request ≡ output_after a (decoded_lines 5 text) d → a ≡ accepted
     → Read 𝓢 text request
 unfolding output_after
 read 𝓢 text request d {a} e b good = record {

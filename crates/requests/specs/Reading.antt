@@ -1,15 +1,14 @@
 -- What is known of a request to sign, of any scheme, when its form has been checked and its bytes have been read. Assumes nothing.
-use Rattle.std.specs.Prelude.{◌≡◌, ℕ, ◌+◌, ◌-◌, ◌≤◌, length, take, drop, replicate}
+use Rattle.std.specs.Prelude.{◌≡◌, Err, ℕ, ◌+◌, ◌-◌, ◌≤◌, length, take, drop, replicate}
 use Rattle.std.proofs.Math.Path.{refl, sym}
-use Rattle.std.proofs.Common.{ap, subst, ◌∙◌, arith, length-append, take_at}
+use Rattle.std.proofs.Common.{ap, ◌∙◌, arith, length-append, take_at}
 use mathlib.Core.List.{List, [], ◌∷◌, ◌++◌, append_assoc}
-use Rattle.banquet.specs.declared.Answer.{Answer}
-use Rattle.banquet.specs.declared.Answer.TheVariants.{Accepted}
+use Rattle.banquet.specs.declared.Refusal.{Refusal}
+use Rattle.banquet.specs.Answer.{Answer, accepted}
 use Rattle.banquet.specs.Shape.{message_limit, work_length, public_key_length, root_seeds_length, signature_length}
 use Rattle.banquet.specs.Scheme.{Scheme}
 use Rattle.banquet.specs.Calls.{sign_answer}
 use Rattle.banquet.specs.Card.{after_line, decoded_line, decoded_lines, check_lines}
-use Rattle.verdict.specs.Refusal.{Refusal}
 use Rattle.text_lines.specs.Form.{broken, first_line, other_lines, in_form, form_length}
 use Rattle.text_lines.specs.Parts.{middle}
 use Rattle.requests.specs.Requests.{request_sizes, request_length, request_answer}
@@ -23,31 +22,31 @@ module _ (𝓢 : Scheme) where
   R = root_seeds_length 𝓢.shape
 
   abbrev pub form : List ℕ → Answer
-  form text = check_lines 3 (request_sizes 𝓢.shape message_limit) 1 text Accepted
+  form text = check_lines 3 (request_sizes 𝓢.shape message_limit) 1 text accepted
 
   -- ---- a text that breaks its form
 
-  module _ (text : List ℕ) {a : Answer} (e : a ≡ form text) (h : Refusal a) where
+  module _ (text : List ℕ) {a : Answer} (e : a ≡ form text) {refusal : Refusal} (h : a ≡ Err refusal) where
     pub broken_answer : a ≡ request_answer 𝓢 text
     unfolding request_answer
-    broken_answer = e ∙ sym ((broken (request_sizes 𝓢.shape message_limit) 3 1 text (subst Refusal e h)).answer _)
+    broken_answer = e ∙ sym ((broken (request_sizes 𝓢.shape message_limit) 3 1 text (sym e ∙ h)).answer _)
 
   -- ---- a text in form
 
-  module _ (text : List ℕ) (h : form text ≡ Accepted) where
+  module _ (text : List ℕ) (h : form text ≡ accepted) where
     abbrev message : List ℕ
     message = decoded_line 3 text
 
-    second : check_lines 3 (P ∷ message_limit ∷ 32 ∷ R ∷ []) 2 (after_line text) Accepted ≡ Accepted
+    second : check_lines 3 (P ∷ message_limit ∷ 32 ∷ R ∷ []) 2 (after_line text) accepted ≡ accepted
     second = other_lines 3 16 (P ∷ message_limit ∷ 32 ∷ R ∷ []) 1 text h
 
-    third : check_lines 3 (message_limit ∷ 32 ∷ R ∷ []) 3 (after_line (after_line text)) Accepted ≡ Accepted
+    third : check_lines 3 (message_limit ∷ 32 ∷ R ∷ []) 3 (after_line (after_line text)) accepted ≡ accepted
     third = other_lines 3 P (message_limit ∷ 32 ∷ R ∷ []) 2 (after_line text) second
 
-    fourth : check_lines 3 (32 ∷ R ∷ []) 4 (after_line (after_line (after_line text))) Accepted ≡ Accepted
+    fourth : check_lines 3 (32 ∷ R ∷ []) 4 (after_line (after_line (after_line text))) accepted ≡ accepted
     fourth = other_lines 3 message_limit (32 ∷ R ∷ []) 3 (after_line (after_line text)) third
 
-    fifth : check_lines 3 (R ∷ []) 5 (after_line (after_line (after_line (after_line text)))) Accepted ≡ Accepted
+    fifth : check_lines 3 (R ∷ []) 5 (after_line (after_line (after_line (after_line text)))) accepted ≡ accepted
     fifth = other_lines 3 32 (R ∷ []) 4 (after_line (after_line (after_line text))) fourth
 
     key_long : length (decoded_line 1 text) ≡ 16

@@ -4,10 +4,9 @@ use Rattle.std.specs.Prelude.{List, [], ◌∷◌, ℕ, ◌+◌, ◌*◌, eqb, r
 use Rattle.slices.specs.Lists.{choose}
 use Rattle.slices.specs.Layout.{total}
 use Rattle.banquet.specs.declared.Shape.{Shape}
-use Rattle.banquet.specs.declared.Answer.{Answer}
 use Rattle.banquet.specs.Shape.{message_limit, work_length, public_key_length, root_seeds_length, signature_length}
 use Rattle.banquet.specs.Scheme.{Scheme}
-use Rattle.banquet.specs.Answer.{verdict_of}
+use Rattle.banquet.specs.Answer.{Answer, verdict_of}
 use Rattle.banquet.specs.Signature.{signature}
 use Rattle.banquet.specs.Calls.{sign_answer}
 use Rattle.banquet.specs.Card.{decoded_line, check_lines, card_text, printed}

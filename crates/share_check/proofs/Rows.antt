@@ -1,4 +1,5 @@
 -- The rows of all parties, worked out and stated: their sizes, and what their comparison answers. Assumes nothing.
+use Rattle.std.specs.Prelude.{Err}
 use mathlib.Core.Path.{◌≡◌, refl, sym, ap, ap₂, ◌∙◌}
 use mathlib.Core.Bool.{◌||◌}
 use mathlib.Core.List.{List, ◌++◌}
@@ -14,10 +15,9 @@ use Rattle.slices.specs.Layout.{total, field}
 use Rattle.slices.proofs.Layouts.{sized_field}
 use Rattle.compare.specs.Lowest.{lowest}
 use Rattle.banquet.specs.declared.Shape.{Shape}
-use Rattle.banquet.specs.declared.Answer.{Answer}
-use Rattle.banquet.specs.declared.Answer.TheVariants.{ShareDiffers, ProductDiffers, Accepted}
+use Rattle.banquet.specs.declared.Refusal.TheVariants.{ShareDiffers, ProductDiffers}
 use Rattle.banquet.specs.Shape.{transcript_sizes}
-use Rattle.banquet.specs.Answer.{require}
+use Rattle.banquet.specs.Answer.{Answer, accepted, require}
 use Rattle.banquet.specs.Sets.{scheme_of}
 use Rattle.banquet.specs.Hash.{tape}
 use Rattle.banquet.specs.Key.{front_of, ciphertext_of}
@@ -98,7 +98,7 @@ module _ {S : Shape} {public_key t : List ℕ} {e second : ℕ} (g : Given S pub
     sums_checked : sums_answer S (ciphertext_of (scheme_of S) public_key) e
         (sum_xor parties (λ i. row (total (row_sizes S)) i (rows (stated_row S t) parties)))
         ≡ require (outputs_hold (scheme_of S) public_key t) (ShareDiffers parties)
-        (require (product_holds (scheme_of S) t) (ProductDiffers (execution_of (scheme_of S) t)) Accepted)
+        (require (product_holds (scheme_of S) t) (ProductDiffers (execution_of (scheme_of S) t)) accepted)
     unfolding sums_answer
     sums_checked =
         rw (
@@ -139,7 +139,7 @@ module _ (S : Shape) (ciphertext : List ℕ) (e hidden : ℕ) (made stated : Lis
   lowest_is : found ≡ lowest S.parties 0 (λ i. eqb i hidden || same (row (total (row_sizes S)) i made) (row (total (row_sizes S)) i stated))
   lowest_is = f ∙ ap (λ n. lowest S.parties 0 (λ i. eqb i hidden || same (row n i made) (row n i stated))) size
 
-  pub row_differs : found < S.parties → ShareDiffers found ≡ rows_answer S ciphertext e hidden made stated
+  pub row_differs : found < S.parties → Err (ShareDiffers found) ≡ rows_answer S ciphertext e hidden made stated
   unfolding rows_answer
   row_differs l = sym (each_found _ ShareDiffers _ S.parties lowest_is l)
 

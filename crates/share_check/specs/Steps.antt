@@ -4,11 +4,10 @@ use Rattle.slices.specs.Lists.{row, same, sum_xor}
 use Rattle.slices.specs.Bytes.{Sized}
 use Rattle.slices.specs.Layout.{total}
 use Rattle.banquet.specs.declared.Shape.{Shape}
-use Rattle.banquet.specs.declared.Answer.{Answer}
-use Rattle.banquet.specs.declared.Answer.TheVariants.{ShareDiffers}
+use Rattle.banquet.specs.declared.Refusal.TheVariants.{ShareDiffers}
 use Rattle.banquet.specs.Shape.{public_key_length, transcript_sizes}
 use Rattle.banquet.specs.Sets.{scheme_of}
-use Rattle.banquet.specs.Answer.{each}
+use Rattle.banquet.specs.Answer.{Answer, each}
 use Rattle.banquet.specs.Opening.{execution_of, second_of, committed_of, challenge_of, tape_under}
 use Rattle.sets.specs.Valid.{Valid}
 use Rattle.sets.specs.Bounds.{row_sizes}

@@ -1,4 +1,5 @@
 -- A row's fields, and the end of the check case by case. Assumes nothing.
+use Rattle.std.specs.Prelude.{Err}
 use mathlib.Core.Path.{◌≡◌, sym, ap, ◌∙◌}
 use mathlib.Core.Bool.{Bool, true, false}
 use mathlib.Core.List.{List}
@@ -8,9 +9,8 @@ use lib.ListN.{length, get_or, take}
 use Rattle.slices.specs.Lists.{row, sum_xor, same}
 use Rattle.slices.specs.Layout.{total, field, length_field}
 use Rattle.banquet.specs.declared.Shape.{Shape}
-use Rattle.banquet.specs.declared.Answer.{Answer}
-use Rattle.banquet.specs.declared.Answer.TheVariants.{Accepted, ShareDiffers, ProductDiffers}
-use Rattle.banquet.specs.Answer.{require}
+use Rattle.banquet.specs.declared.Refusal.TheVariants.{ShareDiffers, ProductDiffers}
+use Rattle.banquet.specs.Answer.{Answer, accepted, require}
 use Rattle.sets.specs.Valid.{Valid}
 use Rattle.sets.specs.Bounds.{row_sizes}
 use Rattle.sets.proofs.Bounds.{row_most}
@@ -46,19 +46,19 @@ module _ (S : Shape) (rows ciphertext : List ℕ) (e : ℕ) {sums : List ℕ} {l
   summed : sums ≡ all
   summed = is ∙ ap (λ n. sum_xor S.parties (λ i. row n i rows)) size
 
-  answered : answer ≡ require test (ShareDiffers S.parties) (require (row_product_holds S sums) (ProductDiffers e) Accepted)
+  answered : answer ≡ require test (ShareDiffers S.parties) (require (row_product_holds S sums) (ProductDiffers e) accepted)
   unfolding sums_answer field
   answered = rw (tested, summed)
 
-  pub outputs_miss : test ≡ false → (ShareDiffers S.parties ≡ answer) × (sums ≡ all)
+  pub outputs_miss : test ≡ false → (Err (ShareDiffers S.parties) ≡ answer) × (sums ≡ all)
   unfolding require
   outputs_miss h = (sym (answered ∙ simp h), summed)
 
   module _ {holds : Bool} (p : holds ≡ row_product_holds S sums) where
-    pub product_misses : test ≡ true → holds ≡ false → (ProductDiffers e ≡ answer) × (sums ≡ all)
+    pub product_misses : test ≡ true → holds ≡ false → (Err (ProductDiffers e) ≡ answer) × (sums ≡ all)
     unfolding require
     product_misses h f = (sym (answered ∙ simp (h, ← p, f)), summed)
 
-    pub both_hold : test ≡ true → holds ≡ true → (Accepted ≡ answer) × (sums ≡ all)
+    pub both_hold : test ≡ true → holds ≡ true → (accepted ≡ answer) × (sums ≡ all)
     unfolding require
     both_hold h f = (sym (answered ∙ simp (h, ← p, f)), summed)
