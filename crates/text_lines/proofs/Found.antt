@@ -1,4 +1,6 @@
 -- What is known of a line by where the scan says that it ends. Assumes nothing.
+use Rattle.std.specs.Prelude.{Some, None}
+use Rattle.std.proofs.Common.{take_all}
 use mathlib.Core.Path.{◌≡◌, refl, sym, ap, ◌∙◌}
 use mathlib.Core.Bool.{Bool, true, false, ◌&&◌}
 use mathlib.Core.List.{List, [], ◌∷◌}
@@ -8,7 +10,8 @@ use lib.Dec.{eqb}
 use lib.ListN.{length, take, drop, length-take, length-drop}
 use lib.Seq.{drop-drop}
 use borrow.Author.Tests.{ltb-true, lt-ltb}
-use Rattle.slices.specs.Lists.{choose}
+use Rattle.slices.specs.Lists.{choose, found}
+use Rattle.slices.specs.Found.{some_found, none_found}
 use Rattle.banquet.specs.Card.{all_digits, line_of, after_line, is_ended, has_size, is_line}
 use Rattle.text_lines.specs.Lines.{line_end}
 
@@ -54,9 +57,6 @@ module _ (text : List ℕ) {at end : ℕ} (h : at ≤ length text) (e : end ≡ 
   long : length rest ≡ length text - at
   long = length-drop at text
 
-  pub end_within : (at ≤ end) × (end ≤ length text)
-  end_within = (omega arith, omega (arith, end_short rest, long))
-
   pub no_line : (shorter : Bool) (size : ℕ) → end ≡ length text → is_line shorter size rest ≡ false
   unfolding line_end is_line
   no_line shorter size f =
@@ -92,3 +92,21 @@ module _ (text : List ℕ) {at end : ℕ} (h : at ≤ length text) (e : end ≡ 
     line_after =
         let n : at + suc (length (line_of rest)) ≡ end + 1 = omega (arith, size_is) in
         drop-drop (suc (length (line_of rest))) at text ∙ ap (λ (n : ℕ). drop n text) n
+
+-- ---- the same where the scan is of what is left, as `text[at..]` lends it
+
+abbrev pub lent : List ℕ → ℕ → List ℕ
+lent text at = take (length text - at) (drop at text)
+
+module _ (text : List ℕ) (at : ℕ) where
+  pub rest_lent : lent text at ≡ drop at text
+  rest_lent = take_all (length text - at) (drop at text) (omega (arith, length-drop at text))
+
+  pub line_found : (digits : ℕ) → Some digits ≡ found (length (lent text at)) (line_end (lent text at))
+      → (at + digits ≡ at + line_end (drop at text)) × (at + digits < length text)
+  line_found digits e =
+      let f = some_found _ _ _ (rw rest_lent at e) in
+      (ap (at +◌) f.0, omega (arith, f, length-drop at text))
+
+  pub none_ended : at ≤ length text → None ≡ found (length (lent text at)) (line_end (lent text at)) → length text ≡ at + line_end (drop at text)
+  none_ended h e = omega (arith, none_found _ _ (rw rest_lent at e), end_short (drop at text), length-drop at text)

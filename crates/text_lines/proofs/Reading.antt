@@ -1,17 +1,20 @@
 -- The loop that reads lines: what is written after each turn. Assumes nothing.
+use Rattle.std.specs.Prelude.{Option, IsSome}
 use mathlib.Core.Path.{◌≡◌, refl, sym, ap, ◌∙◌}
 use mathlib.Core.List.{List, [], ◌++◌, append-nil, append_assoc}
 use Prim.Native.Nat.{ℕ, ◌+◌, ◌-◌, ◌*◌, ◌/◌, ◌≤◌, ◌<◌}
 use native.Mathlib.Omega.{arith}
-use lib.ListN.{length, take, drop, get_or, drop_of_length-le}
+use lib.ListN.{length, take, drop, get_or, length-drop, drop_of_length-le}
 use borrow.Rule.Slice.PartMut.{put_mid}
 use Rattle.slices.specs.Layout.{total}
+use Rattle.slices.specs.Lists.{found}
+use Rattle.slices.specs.Found.{found_some}
 use Rattle.slices.proofs.Put.{Wrote, front, wrote_none, cut_long, wrote_lent}
 use Rattle.banquet.specs.Answer.{accepted, output_after}
 use Rattle.banquet.specs.Card.{decoded, line_of, decoded_lines}
 use Rattle.text_lines.specs.Lines.{line_end}
 use Rattle.text_lines.specs.Parts.{sizes_left}
-use Rattle.text_lines.proofs.Found.{line_cut, line_after}
+use Rattle.text_lines.proofs.Found.{line_cut, line_after, lent, rest_lent}
 use Rattle.text_lines.proofs.Checked.{checked, accepted_line}
 
 -- the first i lines end at index at and stand for p bytes, and l is d with these in front
@@ -43,6 +46,13 @@ module _ {message : ℕ} {sizes text d : List ℕ} {i at p : ℕ} {l : List ℕ}
       let none : drop i sizes ≡ [] = drop_of_length-le sizes {i = i} (omega arith) in
       let whole : r.bytes ≡ decoded_lines (length sizes) text = sym (append-nil r.bytes) ∙ (rw none at r.all) in
       r.wrote.is ∙ ap (λ (b : List ℕ). front b d) whole
+
+  -- a line that is left has its end
+  pub reading_ended : i < length sizes → {o : Option ℕ} → o ≡ found (length (lent text at)) (line_end (lent text at)) → IsSome o
+  reading_ended h e =
+      let inside = (accepted_line message sizes text i at h r.inside refl r.form).0 in
+      let some = found_some (length (drop at text)) (line_end (drop at text)) (omega (arith, inside, length-drop at text)) in
+      rw (e, rest_lent, some)
 
   module _ {end : ℕ} (h : i < length sizes) (e : end ≡ at + line_end (drop at text)) where
     line : (end < length text) × (end - at ≡ 2 * ((end - at) / 2)) × ((end - at) / 2 ≤ get_or sizes i 0)

@@ -1,31 +1,30 @@
 // Lines of text in hexadecimal: their form is checked, and bytes are read from them. A form is how many bytes each line stands for.
 #![tactic(auto)]
 
-ghost use Rattle.std.specs.Prelude.{◌≡◌, ◌+◌, ◌<◌, ◌≤◌, length, drop};
+ghost use Rattle.std.specs.Prelude.{◌≡◌, ◌<◌, ◌≤◌, length};
 ghost use Rattle.slices.specs.Layout.{total};
-ghost use Rattle.banquet.specs.declared.Answer.TheVariants.{Accepted};
-ghost use Rattle.banquet.specs.Answer.{output_after};
+ghost use Rattle.slices.specs.Lists.{found};
+ghost use Rattle.banquet.specs.Answer.{accepted, output_after};
 ghost use Rattle.banquet.specs.Card.{decoded_lines, has_size, check_lines};
 ghost use Rattle.text_lines.specs.Lines.{line_end};
 
-use banquet::{Answer, Symbol};
+use banquet::{Answer, Refusal, Symbol};
 
-// Where the line that begins at `from` ends, if it is of digits and is ended; else where the text ends.
-fn line_end(text: &[u8], from: usize) -> usize
-    requires { from ≤ length text.now }
-    ensures { result ≡ from + line_end (drop from text.now) }
+// How long the first line of a text is, if it is of digits and is ended.
+fn line_end(text: &[u8]) -> Option<usize>
+    ensures { result ≡ found (length text.now) (line_end text.now) }
 {
-    for i in from..text.len() {
-        let found = hex_digits::symbol(text[i]);
-        match found {
+    for (i, byte) in text.iter().enumerate() {
+        match hex_digits::symbol(*byte) {
             Symbol::Value(_) => {}
-            Symbol::LineEnd => return i,
-            Symbol::Other => return text.len(),
+            Symbol::LineEnd => return Some(i),
+            Symbol::Other => return None,
         }
     }
-    text.len()
+    None
 }
 
+#[tactic(auto, unfolding(banquet::specs::Card::has_size))]
 fn has_size(shorter: bool, size: usize, digits: usize) -> bool
     ensures { result ≡ has_size shorter size digits }
 {
@@ -42,34 +41,30 @@ fn has_size(shorter: bool, size: usize, digits: usize) -> bool
 // Number 18: the first line that has not the form. Line `message` may be shorter.
 fn check_lines(text: &[u8], sizes: &[usize], message: usize) -> Answer
     requires { length sizes.now < 255 }
-    ensures { result ≡ check_lines message sizes.now 1 text.now Accepted }
+    ensures { result ≡ check_lines message sizes.now 1 text.now accepted }
 {
     let mut at = 0;
-    for i in 0..sizes.len() {
-        let end = line_end(text, at);
-        if end == text.len() {
-            return Answer::TextForm((i + 1) as u8);
+    for (i, size) in sizes.iter().enumerate() {
+        match line_end(&text[at..]) {
+            Some(digits) if has_size(i + 1 == message, *size, digits) => at += digits + 1,
+            _ => return Err(Refusal::TextForm((i + 1) as u8)),
         }
-        if !has_size(i + 1 == message, sizes[i], end - at) {
-            return Answer::TextForm((i + 1) as u8);
-        }
-        at = end + 1;
     }
     if at != text.len() {
-        return Answer::TextForm((sizes.len() + 1) as u8);
+        return Err(Refusal::TextForm((sizes.len() + 1) as u8));
     }
-    Answer::Accepted
+    Ok(())
 }
 
 // The bytes that a text of the form stands for, at the front of `out`.
 fn decode_lines(text: &[u8], sizes: &[usize], message: usize, out: &mut [u8])
-    requires { (check_lines message sizes.now 1 text.now Accepted ≡ Accepted) × (total sizes.now ≤ length out.old) }
-    ensures { out.new ≡ output_after Accepted (decoded_lines (length sizes.now) text.now) out.old }
+    requires { (check_lines message sizes.now 1 text.now accepted ≡ accepted) × (total sizes.now ≤ length out.old) }
+    ensures { out.new ≡ output_after accepted (decoded_lines (length sizes.now) text.now) out.old }
 {
     let mut at = 0;
     let mut p = 0;
-    for _ in 0..sizes.len() {
-        let end = line_end(text, at);
+    for _ in sizes {
+        let end = at + line_end(&text[at..]).unwrap();
         let q = p + (end - at) / 2;
         hex_digits::decode(&text[at..end], &mut out[p..q]);
         at = end + 1;
@@ -80,14 +75,10 @@ fn decode_lines(text: &[u8], sizes: &[usize], message: usize, out: &mut [u8])
 // The form is checked; where it holds, the bytes that the text stands for are put at the front of `out`, else nothing is.
 pub fn read_lines(text: &[u8], sizes: &[usize], message: usize, out: &mut [u8]) -> Answer
     requires { (length sizes.now < 255) × (total sizes.now ≤ length out.old) }
-    ensures value { result ≡ check_lines message sizes.now 1 text.now Accepted }
+    ensures value { result ≡ check_lines message sizes.now 1 text.now accepted }
     ensures out_after { out.new ≡ output_after result (decoded_lines (length sizes.now) text.now) out.old }
 {
-    let answer = check_lines(text, sizes, message);
-    match answer {
-        Answer::Accepted => {}
-        _ => return answer,
-    }
+    check_lines(text, sizes, message)?;
     decode_lines(text, sizes, message, out);
-    answer
+    Ok(())
 }
