@@ -11,8 +11,8 @@ pub fn encode_lines(s: &[u8], sizes: &[usize], out: &mut [u8])
     ensures { out.new ≡ encoded_lines sizes.now s.now }
 {
     let mut p = 0;
-    for i in 0..sizes.len() {
-        let q = p + sizes[i];
+    for (i, size) in sizes.iter().enumerate() {
+        let q = p + size;
         let a = 2 * p + i;
         let b = 2 * q + i;
         hex_digits::encode(&s[p..q], &mut out[a..b]);
