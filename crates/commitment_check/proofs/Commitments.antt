@@ -2,9 +2,10 @@
 use mathlib.Core.Path.{◌≡◌, refl, ap, ap₂, ◌∙◌}
 use mathlib.Core.Bool.{◌||◌}
 use mathlib.Core.List.{List}
+use Rattle.std.specs.Prelude.{Option}
 use Prim.Native.Nat.{ℕ}
 use lib.Dec.{eqb}
-use Rattle.slices.specs.Lists.{rows, row, same}
+use Rattle.slices.specs.Lists.{found, rows, row, same}
 use Rattle.slices.specs.Tab.{row_of_rows, rows_cong}
 use Rattle.slices.specs.Layout.{field}
 use Rattle.compare.specs.Lowest.{lowest, lowest_cong}
@@ -38,12 +39,12 @@ module _ (S : Shape) (t seeds : List ℕ) (e : ℕ) where
     all_hashed = m ∙ rows_cong parties (λ i l. row_hashed i)
 
     -- the lowest shown party whose commitment differs
-    pub differing : (hidden : ℕ) {stated : List ℕ} {found : ℕ} → stated ≡ field sizes 2 t
-        → found ≡ lowest parties 0 (λ i. eqb i hidden || same (row 32 i made) (row 32 i stated))
-        → found ≡ lowest parties 0 (λ i. eqb i hidden || same (committed i) (commitment_of (scheme_of S) t i))
+    pub differing : (hidden : ℕ) {stated : List ℕ} {differs : Option ℕ} → stated ≡ field sizes 2 t
+        → differs ≡ found parties (lowest parties 0 (λ i. eqb i hidden || same (row 32 i made) (row 32 i stated)))
+        → differs ≡ found parties (lowest parties 0 (λ i. eqb i hidden || same (committed i) (commitment_of (scheme_of S) t i)))
     differing hidden c f =
-        f ∙ lowest_cong parties (λ i l. ap (eqb i hidden ||◌)
+        f ∙ ap (found parties) (lowest_cong parties (λ i l. ap (eqb i hidden ||◌)
         (ap₂ same
         (ap (row 32 i) m
         ∙ row_of_rows 32 (λ i. party_hash 0 salt e i (row 16 i seeds) 32) parties (λ j k. length_hash 0 salt e j (row 16 j seeds) 32) i l
-        ∙ row_hashed i) (ap (row 32 i) (c ∙ ap (λ l. field l 2 t) z))))
+        ∙ row_hashed i) (ap (row 32 i) (c ∙ ap (λ l. field l 2 t) z)))))

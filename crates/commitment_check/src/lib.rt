@@ -2,7 +2,7 @@
 #![tactic(auto)]
 
 ghost use Rattle.std.specs.Prelude.{◌≡◌, ◌||◌, ◌*◌, ◌≤◌, eqb, length};
-ghost use Rattle.slices.specs.Lists.{rows, row, same};
+ghost use Rattle.slices.specs.Lists.{found, rows, row, same};
 ghost use Rattle.slices.specs.Layout.{total};
 ghost use Rattle.compare.specs.Lowest.{lowest};
 ghost use Rattle.banquet.specs.Shape.{transcript_sizes};
@@ -13,7 +13,7 @@ ghost use Rattle.sets.specs.Valid.{Valid};
 
 use banquet::Shape;
 
-// The lowest shown party whose commitment differs from the stated one, or the count of parties.
+// The lowest shown party whose commitment differs from the stated one.
 pub fn first_commitment(
     shape: Shape,
     transcript: &[u8],
@@ -21,13 +21,13 @@ pub fn first_commitment(
     hidden: usize,
     seeds: &[u8],
     scratch: &mut [u8],
-) -> usize
+) -> Option<usize>
     requires { Valid shape × (length transcript.now ≡ total (transcript_sizes shape)) × (e ≡ execution_of (scheme_of shape) transcript.now)
         × (shape.parties * 16 ≤ length seeds.now) × (length scratch.old ≡ shape.parties * 32) }
     ensures value { result
-        ≡ lowest shape.parties 0 (λ i. eqb i hidden
+        ≡ found shape.parties (lowest shape.parties 0 (λ i. eqb i hidden
         || same (commitment (scheme_of shape) (salt_of (scheme_of shape) transcript.now) e i (row 16 i seeds.now))
-        (commitment_of (scheme_of shape) transcript.now i)) }
+        (commitment_of (scheme_of shape) transcript.now i))) }
     ensures scratch_after { scratch.new
         ≡ rows (λ i. commitment (scheme_of shape) (salt_of (scheme_of shape) transcript.now) e i (row 16 i seeds.now))
         shape.parties }

@@ -2,6 +2,7 @@
 #![tactic(auto)]
 
 ghost use Rattle.std.specs.Prelude.{◌≡◌, ◌<◌, length};
+ghost use Rattle.slices.specs.Lists.{found};
 ghost use Rattle.compare.specs.Lowest.{lowest};
 ghost use Rattle.banquet.specs.Shape.{signature_length};
 ghost use Rattle.banquet.specs.Sets.{scheme_of};
@@ -24,16 +25,11 @@ fn frame_holds(shape: Shape, s: &[u8], e: usize) -> bool
     )
 }
 
-// "c isn't the sum of a_j times b_j; place is the lowest such execution": that, or the count of executions.
-pub fn first_product(shape: Shape, s: &[u8]) -> usize
+// "c isn't the sum of a_j times b_j; place is the lowest such execution".
+pub fn first_product(shape: Shape, s: &[u8]) -> Option<usize>
     requires { Valid shape × (length s.now ≡ signature_length shape) }
-    ensures { result ≡ lowest shape.executions 0 (λ e. frame_holds (scheme_of shape) (frame_of (scheme_of shape) s.now e)) }
+    ensures { result
+        ≡ found shape.executions (lowest shape.executions 0 (λ e. frame_holds (scheme_of shape) (frame_of (scheme_of shape) s.now e))) }
 {
-    let n = shape.executions;
-    for e in 0..n {
-        if !frame_holds(shape, s, e) {
-            return e;
-        }
-    }
-    n
+    (0..shape.executions).find(|&e| !frame_holds(shape, s, e))
 }

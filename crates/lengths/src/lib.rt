@@ -1,30 +1,29 @@
 // The refusals of the calls that go by numbers alone, for any parameter set: the lengths of what a call is lent, and the three numbers of an opening.
-#![tactic(auto)]
+#![tactic(auto, unfolding(banquet::specs::Answer::require))]
 
 ghost use Rattle.std.specs.Prelude.{◌≡◌};
-ghost use Rattle.banquet.specs.declared.Answer.TheVariants.{Accepted};
-ghost use Rattle.banquet.specs.Answer.{in_order};
+ghost use Rattle.banquet.specs.Answer.{accepted, in_order};
 ghost use Rattle.banquet.specs.Opening.{range_tests};
 ghost use Rattle.banquet.specs.Calls.{public_key_tests, sign_tests, verify_tests, open_tests, verify_opening_tests};
 ghost use Rattle.sets.specs.Valid.{Valid};
 
-use banquet::{Answer, Shape};
+use banquet::{Answer, Refusal, Shape};
 
 // Make a public key.
 pub fn public_key(shape: Shape, key: usize, plaintext: usize, output: usize) -> Answer
     requires { Valid shape }
-    ensures { result ≡ in_order (public_key_tests shape key plaintext output) Accepted }
+    ensures { result ≡ in_order (public_key_tests shape key plaintext output) accepted }
 {
     if key != 16 {
-        return Answer::KeyLength;
+        return Err(Refusal::KeyLength);
     }
     if plaintext != shape.front {
-        return Answer::PublicKeyLength;
+        return Err(Refusal::PublicKeyLength);
     }
     if output < sets::public_key_length(shape) {
-        return Answer::FileLength;
+        return Err(Refusal::FileLength);
     }
-    Answer::Accepted
+    Ok(())
 }
 
 // Sign.
@@ -39,50 +38,50 @@ pub fn sign(
     work: usize,
 ) -> Answer
     requires { Valid shape }
-    ensures { result ≡ in_order (sign_tests shape key public message salt seeds output work) Accepted }
+    ensures { result ≡ in_order (sign_tests shape key public message salt seeds output work) accepted }
 {
     if key != 16 {
-        return Answer::KeyLength;
+        return Err(Refusal::KeyLength);
     }
     if public != sets::public_key_length(shape) {
-        return Answer::PublicKeyLength;
+        return Err(Refusal::PublicKeyLength);
     }
     if banquet::MESSAGE_LIMIT < message {
-        return Answer::MessageLength;
+        return Err(Refusal::MessageLength);
     }
     if salt != 32 {
-        return Answer::SaltLength;
+        return Err(Refusal::SaltLength);
     }
     if seeds != shape.executions * 16 {
-        return Answer::SeedLength;
+        return Err(Refusal::SeedLength);
     }
     if output < frames::signature_length(shape) {
-        return Answer::FileLength;
+        return Err(Refusal::FileLength);
     }
     if work < banquet::WORK_LENGTH {
-        return Answer::WorkLength;
+        return Err(Refusal::WorkLength);
     }
-    Answer::Accepted
+    Ok(())
 }
 
 // Check a signature.
 pub fn verify(shape: Shape, public: usize, message: usize, signature: usize, work: usize) -> Answer
     requires { Valid shape }
-    ensures { result ≡ in_order (verify_tests shape public message signature work) Accepted }
+    ensures { result ≡ in_order (verify_tests shape public message signature work) accepted }
 {
     if public != sets::public_key_length(shape) {
-        return Answer::PublicKeyLength;
+        return Err(Refusal::PublicKeyLength);
     }
     if banquet::MESSAGE_LIMIT < message {
-        return Answer::MessageLength;
+        return Err(Refusal::MessageLength);
     }
     if signature != frames::signature_length(shape) {
-        return Answer::FileLength;
+        return Err(Refusal::FileLength);
     }
     if work < banquet::WORK_LENGTH {
-        return Answer::WorkLength;
+        return Err(Refusal::WorkLength);
     }
-    Answer::Accepted
+    Ok(())
 }
 
 // Open an execution.
@@ -97,61 +96,61 @@ pub fn open(
     work: usize,
 ) -> Answer
     requires { Valid shape }
-    ensures { result ≡ in_order (open_tests shape key public salt root first output work) Accepted }
+    ensures { result ≡ in_order (open_tests shape key public salt root first output work) accepted }
 {
     if key != 16 {
-        return Answer::KeyLength;
+        return Err(Refusal::KeyLength);
     }
     if public != sets::public_key_length(shape) {
-        return Answer::PublicKeyLength;
+        return Err(Refusal::PublicKeyLength);
     }
     if salt != 32 {
-        return Answer::SaltLength;
+        return Err(Refusal::SaltLength);
     }
     if first != shape.m1 * shape.wide {
-        return Answer::SaltLength;
+        return Err(Refusal::SaltLength);
     }
     if root != 16 {
-        return Answer::SeedLength;
+        return Err(Refusal::SeedLength);
     }
     if output < opening_sizes::opening_length(shape) {
-        return Answer::FileLength;
+        return Err(Refusal::FileLength);
     }
     if work < banquet::WORK_LENGTH {
-        return Answer::WorkLength;
+        return Err(Refusal::WorkLength);
     }
-    Answer::Accepted
+    Ok(())
 }
 
 // Check an opening.
 pub fn verify_opening(shape: Shape, public: usize, opening: usize, work: usize) -> Answer
     requires { Valid shape }
-    ensures { result ≡ in_order (verify_opening_tests shape public opening work) Accepted }
+    ensures { result ≡ in_order (verify_opening_tests shape public opening work) accepted }
 {
     if public != sets::public_key_length(shape) {
-        return Answer::PublicKeyLength;
+        return Err(Refusal::PublicKeyLength);
     }
     if opening != opening_sizes::opening_length(shape) {
-        return Answer::FileLength;
+        return Err(Refusal::FileLength);
     }
     if work < banquet::WORK_LENGTH {
-        return Answer::WorkLength;
+        return Err(Refusal::WorkLength);
     }
-    Answer::Accepted
+    Ok(())
 }
 
 // "An opening's execution is over 40, whether lent for opening or read in a check; 9 and 10 likewise."
 pub fn ranges(shape: Shape, e: usize, hidden: usize, second: u64) -> Answer
-    ensures { result ≡ in_order (range_tests shape e hidden second) Accepted }
+    ensures { result ≡ in_order (range_tests shape e hidden second) accepted }
 {
     if e >= shape.executions {
-        return Answer::ExecutionRange;
+        return Err(Refusal::ExecutionRange);
     }
     if hidden >= shape.parties {
-        return Answer::HiddenPartyRange;
+        return Err(Refusal::HiddenPartyRange);
     }
     if second < (shape.m2 as u64) {
-        return Answer::SecondChallengeRange;
+        return Err(Refusal::SecondChallengeRange);
     }
-    Answer::Accepted
+    Ok(())
 }

@@ -10,8 +10,7 @@ use lib.Seq.{length-take-le, drop-append-add, drop-drop}
 use borrow.Rule.Slice.PartMut.{put_mid, same_len_mid}
 use Rattle.slices.proofs.Put.{front_long}
 use Rattle.banquet.specs.Shape.{work_length}
-use Rattle.banquet.specs.declared.Answer.TheVariants.{Accepted}
-use Rattle.banquet.specs.Answer.{cleared, output_after}
+use Rattle.banquet.specs.Answer.{accepted, cleared, output_after}
 use Rattle.scratch.specs.Scratch.{Scratch}
 
 -- what stands behind a front of k elements that is lent is there still
@@ -37,6 +36,6 @@ front_cleared w {z} e h = zeros work_length w z e h
 
 -- ---- the output's front, which is lent and comes back
 
-pub front_output : (n : ℕ) (d : List ℕ) {y s : List ℕ} → y ≡ s → length y ≡ n → put_mid 0 (n - 0) d y ≡ output_after Accepted s d
+pub front_output : (n : ℕ) (d : List ℕ) {y s : List ℕ} → y ≡ s → length y ≡ n → put_mid 0 (n - 0) d y ≡ output_after accepted s d
 unfolding output_after
 front_output n d {y} {s} e h = let z : n - 0 ≡ length s = omega (arith, h, ap length e) in rw (z, e)
