@@ -3,14 +3,14 @@
 #![tactic(auto)]
 
 ghost use Rattle.std.specs.Prelude.{◌≡◌, length};
-ghost use Rattle.banquet.specs.declared.Answer.TheVariants.{Accepted};
+ghost use Rattle.banquet.specs.Answer.{accepted};
 ghost use Rattle.banquet.specs.Shape.{sboxes, public_key_length};
 ghost use Rattle.banquet.specs.Scheme.{true_inverses};
 ghost use Rattle.banquet.specs.Sets.{scheme_of};
 ghost use Rattle.banquet.specs.Key.{front_of, check_key};
 ghost use Rattle.sets.specs.Valid.{Valid};
 
-use banquet::{Answer, Shape};
+use banquet::{Answer, Refusal, Shape};
 
 // Numbers 11 and 12; what the S-boxes are given, and its inverses.
 pub fn check_key(
@@ -22,19 +22,18 @@ pub fn check_key(
 ) -> Answer
     requires { Valid shape × (length key.now ≡ 16) × (length public.now ≡ public_key_length shape) × (length inputs.old ≡ sboxes shape)
         × (length inverses.old ≡ sboxes shape) }
-    ensures value { result ≡ check_key (scheme_of shape) public.now key.now Accepted }
+    ensures value { result ≡ check_key (scheme_of shape) public.now key.now accepted }
     ensures inputs_after { inputs.new ≡ (scheme_of shape).circuit.sbox_inputs (front_of (scheme_of shape) public.now) key.now }
     ensures inverses_after { inverses.new ≡ true_inverses (scheme_of shape) (front_of (scheme_of shape) public.now) key.now }
 {
-    let n = inputs.len();
     let ciphertext = cipher::encrypt(key, sets::front(shape, public), inputs);
     slices::copy(inverses, inputs);
     sbox_inputs::invert(inverses);
-    if let Some(zero) = sbox_inputs::first_zero(&inputs[0..n]) {
-        return Answer::ZeroInput(zero as u8);
+    if let Some(zero) = sbox_inputs::first_zero(inputs) {
+        return Err(Refusal::ZeroInput(zero as u8));
     }
     if !equal::equal(&ciphertext, sets::ciphertext(shape, public)) {
-        return Answer::WrongKey;
+        return Err(Refusal::WrongKey);
     }
-    Answer::Accepted
+    Ok(())
 }
