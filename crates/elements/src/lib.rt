@@ -10,8 +10,8 @@ pub fn load(w: usize, s: &[u8], out: &mut [u64])
     requires { (w ≤ 8) × (length out.old * w ≤ length s.now) }
     ensures { out.new ≡ tab (λ k. number_at w k s.now) (length out.old) }
 {
-    for k in 0..out.len() {
-        out[k] = numbers::load(s, k * w, w);
+    for (k, x) in out.iter_mut().enumerate() {
+        *x = numbers::load(s, k * w, w);
     }
 }
 
@@ -20,7 +20,7 @@ pub fn store(w: usize, values: &[u64], out: &mut [u8])
     requires { (w ≤ 8) × (length out.old ≡ length values.now * w) }
     ensures { out.new ≡ numbers w (length values.now) (λ k. get_or values.now k 0) }
 {
-    for k in 0..values.len() {
-        numbers::store(out, k * w, w, values[k]);
+    for (k, x) in values.iter().enumerate() {
+        numbers::store(out, k * w, w, *x);
     }
 }
