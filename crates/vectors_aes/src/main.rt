@@ -11,11 +11,7 @@ use stdio::ReadFailed;
 fn print(rt: HostRuntime, s: &[u8])
     requires { length s.now ≤ 200 }
 {
-    let mut text = [0u8; 400];
-    let end = 2 * s.len();
-    let digits = &mut text[0..end];
-    hex_digits::encode(s, digits);
-    stdio::write(rt, digits);
+    hex_io::print(rt, s);
     stdio::write(rt, b" ");
 }
 

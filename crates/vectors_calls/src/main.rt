@@ -18,24 +18,12 @@ ghost use Rattle.std.specs.Prelude.{◌≡◌, ◌+◌, ◌*◌, ◌≤◌, leng
 
 use banquet::Answer;
 
-// Bytes in hexadecimal.
-fn read(rt: HostRuntime, text: &mut [u8], out: &mut [u8])
-    requires { length text.old ≡ 2 * length out.old }
-{
-    stdio::read(rt, text);
-    hex_digits::decode(text, out);
-}
-
 // Where a part ends that begins at `from` and has as many bytes as the number at index `at` says: at most at `most`.
 fn end(s: &[u8], at: usize, from: usize, most: usize) -> usize
     requires { (at + 3 ≤ length s.now) × (from ≤ most) }
     ensures { (from ≤ result) × (result ≤ most) }
 {
-    let n = numbers::load(s, at, 3) as usize;
-    if most - from < n {
-        return most;
-    }
-    from + n
+    from + (numbers::load(s, at, 3) as usize).min(most - from)
 }
 
 // That part.
@@ -53,15 +41,15 @@ fn read_line(rt: HostRuntime, lent: &mut [u8]) -> u8
 {
     let mut text = [0u8; 12];
     let mut head = [0u8; 6];
-    read(rt, &mut text, &mut head);
+    hex_io::read(rt, &mut text, &mut head);
     let sizes: &[u8] = &head;
     let a = end(sizes, 0, 0, 53800);
     let b = end(sizes, 3, a, 53800);
     let mut digits = [0u8; 107600];
     let n = 2 * (b - a);
-    read(rt, &mut digits[0..n], &mut lent[a..b]);
+    hex_io::read(rt, &mut digits[0..n], &mut lent[a..b]);
     let mut kind = [0u8; 2];
-    stdio::read(rt, &mut kind);
+    let _ = stdio::read(rt, &mut kind);
     kind[0]
 }
 
@@ -100,14 +88,7 @@ fn run(s: &[u8], at: usize, b: u8) -> usize
     requires { at ≤ length s.now }
     ensures { result ≤ length s.now }
 {
-    let mut i = at;
-    while i < s.len() {
-        if s[i] != b {
-            return i;
-        }
-        i += 1;
-    }
-    i
+    at + s[at..].iter().take_while(|x| **x == b).count()
 }
 
 // Where its zeros end, and where its ee after them end.

@@ -17,18 +17,10 @@ fn room() -> [u8; 106000]
     [0; 106000]
 }
 
-// Bytes in hexadecimal.
-fn read(rt: HostRuntime, text: &mut [u8], out: &mut [u8])
-    requires { length text.old ≡ 2 * length out.old }
-{
-    stdio::read(rt, text);
-    hex_digits::decode(text, out);
-}
-
 // The next byte, or 0 where there is none: a line's kind, or its end.
 fn next(rt: HostRuntime) -> u8 {
     let mut byte = [0u8; 1];
-    stdio::read(rt, &mut byte);
+    let _ = stdio::read(rt, &mut byte);
     byte[0]
 }
 
@@ -38,12 +30,8 @@ fn number(rt: HostRuntime, most: usize) -> usize
 {
     let mut digits = [0u8; 6];
     let mut bytes = [0u8; 3];
-    read(rt, &mut digits, &mut bytes);
-    let n = numbers::load(&bytes, 0, 3) as usize;
-    if most < n {
-        return most;
-    }
-    n
+    hex_io::read(rt, &mut digits, &mut bytes);
+    most.min(numbers::load(&bytes, 0, 3) as usize)
 }
 
 // A text, and its length.
@@ -53,7 +41,7 @@ fn read_text(rt: HostRuntime, text: &mut [u8]) -> usize
 {
     let n = number(rt, 106000);
     next(rt);
-    stdio::read(rt, &mut text[0..n]);
+    let _ = stdio::read(rt, &mut text[0..n]);
     next(rt);
     n
 }
@@ -92,7 +80,7 @@ fn read_bytes(rt: HostRuntime, out: &mut [u8]) -> usize
     let m = number(rt, 66000);
     let mut digits = [0u8; 132000];
     let end = 2 * m;
-    read(rt, &mut digits[0..end], &mut out[0..m]);
+    hex_io::read(rt, &mut digits[0..end], &mut out[0..m]);
     m
 }
 
@@ -197,7 +185,6 @@ fn main(rt: HostRuntime) {
         if kind == 0 {
             return;
         }
-        let then = step(rt, kind, &mut whole, &mut text, counts);
-        counts = then;
+        counts = step(rt, kind, &mut whole, &mut text, counts);
     }
 }

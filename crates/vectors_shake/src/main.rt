@@ -6,25 +6,9 @@ ghost use Rattle.std.specs.Prelude.{◌≡◌, ◌*◌, ◌<◌, ◌≤◌, leng
 
 // The message: byte i is 7 (i + i / 256) modulo 256.
 fn fill(input: &mut [u8]) {
-    for i in 0..input.len() {
-        input[i] = ((i % 256 + i / 256 % 256) * 7 % 256) as u8;
+    for (i, byte) in input.iter_mut().enumerate() {
+        *byte = ((i % 256 + i / 256 % 256) * 7 % 256) as u8;
     }
-}
-
-fn write(rt: HostRuntime, s: &[u8], text: &mut [u8])
-    requires { length text.old ≡ 2 * length s.now }
-{
-    hex_digits::encode(s, text);
-    stdio::write(rt, text);
-}
-
-// Two digits a byte.
-fn print(rt: HostRuntime, s: &[u8])
-    requires { length s.now ≤ 700 }
-{
-    let mut text = [0u8; 1400];
-    let end = 2 * s.len();
-    write(rt, s, &mut text[0..end]);
 }
 
 // n in decimal, and a space.
@@ -37,14 +21,10 @@ fn pieces(src: &[u8], piece: usize) -> stream::Sponge
     requires { (0 < piece) × (piece ≤ 100000) × (length src.now ≤ 100000) }
 {
     let mut s = stream::new();
-    let mut at = 0;
-    while at + piece <= src.len() {
-        let end = at + piece;
-        let t = absorb::absorb(s, &src[at..end]);
-        s = t;
-        at = end;
+    for part in src.chunks(piece) {
+        s = absorb::absorb(s, part);
     }
-    absorb::absorb(s, &src[at..])
+    s
 }
 
 // The next bytes of output, in hex.
@@ -52,7 +32,7 @@ fn squeeze_hex(rt: HostRuntime, s: stream::Sponge, out: &mut [u8]) -> stream::Sp
     requires { length out.old ≤ 700 }
 {
     let t = squeeze::squeeze(s, out);
-    print(rt, out);
+    hex_io::print(rt, out);
     t
 }
 
@@ -80,7 +60,7 @@ fn show_example(rt: HostRuntime) {
     let input = [0xa3u8; 200];
     let mut out = [0u8; 512];
     sponge::digest(&input, &mut out);
-    print(rt, &out);
+    hex_io::print(rt, &out);
     stdio::write(rt, b"\n");
 }
 
