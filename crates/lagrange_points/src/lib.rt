@@ -1,26 +1,21 @@
 // Lagrange's values for the points 0 to 20 and 0 to 40, in the fields of 2^32 and 2^48 elements.
 #![tactic(auto)]
 
-ghost use Rattle.std.specs.Prelude.{◌≡◌, ◌<◌, ◌^◌, length};
+ghost use Rattle.std.specs.Prelude.{◌≡◌, ◌<◌, ◌^◌, ◌⊎◌, length};
 ghost use Rattle.slices.specs.Lists.{tab};
+ghost use Rattle.weights.specs.Weights.{Weights};
+ghost use Rattle.lifts.specs.Fields.{bits_of, low_of};
 ghost use Rattle.lagrange.specs.Values.{lagrange_value};
 
-const WEIGHTS32_21: [u64; 21] = [
+use lifts::Field;
+
+static WEIGHTS32_21: [u64; 21] = [
     2991171737, 2468459734, 3506045523, 212800571, 3515103469, 4267841898, 1524613308, 2282023708,
     2798704430, 1462048435, 3757413554, 3082253944, 3255823475, 1716053899, 1989392227, 1264820172,
     3245188521, 4275796852, 2176239310, 3666489699, 1686776176,
 ];
 
-// Lagrange's values at x for the points 0 to 20 in the field of 32 bits.
-pub fn values32_21(x: u64, out: &mut [u64])
-    requires { (x < 2 ^ 32) × (length out.old ≡ 21) }
-    ensures { out.new ≡ tab (lagrange_value 32 0x8d 21 x) 21 }
-{
-    let weights = WEIGHTS32_21;
-    lagrange::values(32, 0x8d, x, &weights, out);
-}
-
-const WEIGHTS32_41: [u64; 41] = [
+static WEIGHTS32_41: [u64; 41] = [
     2734028328, 389991967, 4016518589, 554988476, 662291279, 4250808330, 634914918, 3167303872,
     1790272774, 1345635075, 2981076129, 3948549291, 1122527253, 3783794754, 2443148546, 1778755215,
     1991392627, 1867139234, 872711779, 2113062203, 3859036419, 1517932415, 2773355235, 3955972044,
@@ -29,16 +24,7 @@ const WEIGHTS32_41: [u64; 41] = [
     2591563791,
 ];
 
-// Lagrange's values at x for the points 0 to 40 in the field of 32 bits.
-pub fn values32_41(x: u64, out: &mut [u64])
-    requires { (x < 2 ^ 32) × (length out.old ≡ 41) }
-    ensures { out.new ≡ tab (lagrange_value 32 0x8d 41 x) 41 }
-{
-    let weights = WEIGHTS32_41;
-    lagrange::values(32, 0x8d, x, &weights, out);
-}
-
-const WEIGHTS48_21: [u64; 21] = [
+static WEIGHTS48_21: [u64; 21] = [
     171190615261241,
     42412826617781,
     26697309108569,
@@ -62,16 +48,7 @@ const WEIGHTS48_21: [u64; 21] = [
     263164651783154,
 ];
 
-// Lagrange's values at x for the points 0 to 20 in the field of 48 bits.
-pub fn values48_21(x: u64, out: &mut [u64])
-    requires { (x < 2 ^ 48) × (length out.old ≡ 21) }
-    ensures { out.new ≡ tab (lagrange_value 48 0x2d 21 x) 21 }
-{
-    let weights = WEIGHTS48_21;
-    lagrange::values(48, 0x2d, x, &weights, out);
-}
-
-const WEIGHTS48_41: [u64; 41] = [
+static WEIGHTS48_41: [u64; 41] = [
     132514819140931,
     211659490343330,
     7772227821594,
@@ -115,11 +92,24 @@ const WEIGHTS48_41: [u64; 41] = [
     88179640468036,
 ];
 
-// Lagrange's values at x for the points 0 to 40 in the field of 48 bits.
-pub fn values48_41(x: u64, out: &mut [u64])
-    requires { (x < 2 ^ 48) × (length out.old ≡ 41) }
-    ensures { out.new ≡ tab (lagrange_value 48 0x2d 41 x) 41 }
+// The weights for 21 points or 41.
+fn weights(field: Field, points: usize) -> &'static [u64]
+    requires { (points ≡ 21) ⊎ (points ≡ 41) }
+    ensures count { length result.now ≡ points }
+    ensures right { Weights (bits_of field) (low_of field) points result.now }
 {
-    let weights = WEIGHTS48_41;
-    lagrange::values(48, 0x2d, x, &weights, out);
+    match (field, points) {
+        (Field::Bits32, 21) => &WEIGHTS32_21,
+        (Field::Bits32, _) => &WEIGHTS32_41,
+        (Field::Bits48, 21) => &WEIGHTS48_21,
+        (Field::Bits48, _) => &WEIGHTS48_41,
+    }
+}
+
+// Lagrange's values at x for the points 0 to 20, or for the points 0 to 40: as many as out has elements.
+pub fn values(field: Field, x: u64, out: &mut [u64])
+    requires { (x < 2 ^ bits_of field) × ((length out.old ≡ 21) ⊎ (length out.old ≡ 41)) }
+    ensures { out.new ≡ tab (lagrange_value (bits_of field) (low_of field) (length out.old) x) (length out.old) }
+{
+    lagrange::values(field.bits(), field.low(), x, weights(field, out.len()), out);
 }

@@ -1,9 +1,16 @@
-// The lifts of bytes into the wide fields: the table of 256 entries, and the powers of y.
+// The wide fields, and the lifts of bytes into them: the table of 256 entries, and the powers of y.
 #![tactic(auto)]
 
 ghost use Rattle.std.specs.Prelude.{◌≡◌};
-ghost use Rattle.field.specs.Wide32.{lift32, powers32};
-ghost use Rattle.wide48.specs.Wide48.{powers48};
+ghost use Rattle.field.specs.Wide32.{lift32};
+ghost use Rattle.lifts.specs.Fields.{bits_of, low_of, powers_in};
+
+// A wide field, by the bits of its elements; specs/Fields.antt has its modulus and the powers of y.
+#[derive(Clone, Copy)]
+pub enum Field {
+    Bits32,
+    Bits48,
+}
 
 const LIFT32: [u32; 256] = [
     0, 1, 1084517114, 1084517115, 3294965244, 3294965245, 2227259142, 2227259143, 2127406947,
@@ -47,35 +54,55 @@ pub fn lift32(a: u8) -> u32
     LIFT32[a as usize]
 }
 
-// The powers of y, which are the lifts of 1, 2, 4, .. 128, read from the table: every lift is the sum of some of them.
-pub fn powers32() -> [u64; 8]
-    ensures { result ≡ powers32 }
-{
-    let lifts = LIFT32;
-    [
-        lifts[1] as u64,
-        lifts[2] as u64,
-        lifts[4] as u64,
-        lifts[8] as u64,
-        lifts[16] as u64,
-        lifts[32] as u64,
-        lifts[64] as u64,
-        lifts[128] as u64,
-    ]
-}
+impl Field {
+    // The bits of an element.
+    pub fn bits(self) -> u32
+        ensures { result ≡ bits_of self }
+    {
+        match self {
+            Field::Bits32 => 32,
+            Field::Bits48 => 48,
+        }
+    }
 
-// The same in the field of 48 bits.
-pub fn powers48() -> [u64; 8]
-    ensures { result ≡ powers48 }
-{
-    [
-        1,
-        45350311783564,
-        204700364130685,
-        50155470555071,
-        219514400298654,
-        202657554119817,
-        208594291365772,
-        44256213475364,
-    ]
+    // The modulus, without its highest power of X.
+    pub fn low(self) -> u64
+        ensures { result ≡ low_of self }
+    {
+        match self {
+            Field::Bits32 => 0x8d,
+            Field::Bits48 => 0x2d,
+        }
+    }
+
+    // The powers of y, which are the lifts of 1, 2, 4, .. 128: every lift is the sum of some of them.
+    pub fn powers(self) -> [u64; 8]
+        ensures { result ≡ powers_in self }
+    {
+        match self {
+            Field::Bits32 => {
+                let lifts = LIFT32;
+                [
+                    lifts[1] as u64,
+                    lifts[2] as u64,
+                    lifts[4] as u64,
+                    lifts[8] as u64,
+                    lifts[16] as u64,
+                    lifts[32] as u64,
+                    lifts[64] as u64,
+                    lifts[128] as u64,
+                ]
+            }
+            Field::Bits48 => [
+                1,
+                45350311783564,
+                204700364130685,
+                50155470555071,
+                219514400298654,
+                202657554119817,
+                208594291365772,
+                44256213475364,
+            ],
+        }
+    }
 }

@@ -3,17 +3,17 @@
 #![tactic(auto)]
 
 ghost use Rattle.std.specs.Prelude.{◌≡◌, ◌<◌, ◌^◌, length};
+ghost use Rattle.lifts.specs.Fields.{bits_of};
+
+use lifts::Field;
+use std::array;
 
 fn print(rt: HostRuntime, value: u64) {
     let _ = println!(rt; "{value:x}");
 }
 
-fn product32(rt: HostRuntime, a: u64, b: u64) {
-    print(rt, gf::mul(32, 0x8d, a, b));
-}
-
-fn product48(rt: HostRuntime, a: u64, b: u64) {
-    print(rt, gf::mul(48, 0x2d, a, b));
+fn product(rt: HostRuntime, field: Field, a: u64, b: u64) {
+    print(rt, gf::mul(field.bits(), field.low(), a, b));
 }
 
 // A byte's inverse and its lift.
@@ -23,41 +23,26 @@ fn byte(rt: HostRuntime, b: u8) {
 }
 
 fn print_all(rt: HostRuntime, values: &[u64]) {
-    for k in 0..values.len() {
-        print(rt, values[k]);
+    for value in values {
+        print(rt, *value);
     }
 }
 
 // For 21 points and for 41.
-fn values32(rt: HostRuntime, x: u64)
-    requires { x < 2 ^ 32 }
+fn values(rt: HostRuntime, field: Field, x: u64)
+    requires { x < 2 ^ bits_of field }
 {
     let mut few = [0u64; 21];
-    lagrange_points::values32_21(x, &mut few);
+    lagrange_points::values(field, x, &mut few);
     print_all(rt, &few);
     let mut many = [0u64; 41];
-    lagrange_points::values32_41(x, &mut many);
-    print_all(rt, &many);
-}
-
-fn values48(rt: HostRuntime, x: u64)
-    requires { x < 2 ^ 48 }
-{
-    let mut few = [0u64; 21];
-    lagrange_points::values48_21(x, &mut few);
-    print_all(rt, &few);
-    let mut many = [0u64; 41];
-    lagrange_points::values48_41(x, &mut many);
+    lagrange_points::values(field, x, &mut many);
     print_all(rt, &many);
 }
 
 // Bytes 5, 78, 151, .. modulo 256.
 fn bytes() -> [u8; 200] {
-    let mut s = [0u8; 200];
-    for i in 0..200 {
-        s[i] = ((i * 73 + 5) % 256) as u8;
-    }
-    s
+    array::from_fn(|i| ((i * 73 + 5) % 256) as u8)
 }
 
 fn print_dots(rt: HostRuntime, tables: &[u64], s: &[u8])
@@ -74,8 +59,8 @@ fn dots(rt: HostRuntime, x: u64)
     requires { x < 2 ^ 32 }
 {
     let mut coefficients = [0u64; 21];
-    lagrange_points::values32_21(x, &mut coefficients);
-    let p = lifts::powers32();
+    lagrange_points::values(Field::Bits32, x, &mut coefficients);
+    let p = Field::Bits32.powers();
     let mut tables = [0u64; 672];
     tables::tables(32, 0x8d, &p, &coefficients, &mut tables);
     let s = bytes();
@@ -87,36 +72,36 @@ fn dot(rt: HostRuntime, x: u64)
     requires { x < 2 ^ 32 }
 {
     let mut coefficients = [0u64; 41];
-    lagrange_points::values32_41(x, &mut coefficients);
+    lagrange_points::values(Field::Bits32, x, &mut coefficients);
     let mut points = [0u64; 41];
-    lagrange_points::values32_41(0x89abcdef, &mut points);
+    lagrange_points::values(Field::Bits32, 0x89abcdef, &mut points);
     print(rt, dots::dot(32, 0x8d, &coefficients, &points));
 }
 
 fn main(rt: HostRuntime) {
-    product32(rt, 0x10000, 0x10000);
-    product32(rt, 0x80000000, 2);
-    product32(rt, 0x12345678, 0x9abcdef0);
-    product32(rt, 0xffffffff, 0xffffffff);
-    product32(rt, 0, 0xffffffff);
-    product48(rt, 0x1000000, 0x1000000);
-    product48(rt, 0x800000000000, 2);
-    product48(rt, 0x123456789abc, 0xfedcba987654);
-    product48(rt, 0xffffffffffff, 0xffffffffffff);
+    product(rt, Field::Bits32, 0x10000, 0x10000);
+    product(rt, Field::Bits32, 0x80000000, 2);
+    product(rt, Field::Bits32, 0x12345678, 0x9abcdef0);
+    product(rt, Field::Bits32, 0xffffffff, 0xffffffff);
+    product(rt, Field::Bits32, 0, 0xffffffff);
+    product(rt, Field::Bits48, 0x1000000, 0x1000000);
+    product(rt, Field::Bits48, 0x800000000000, 2);
+    product(rt, Field::Bits48, 0x123456789abc, 0xfedcba987654);
+    product(rt, Field::Bits48, 0xffffffffffff, 0xffffffffffff);
     byte(rt, 0);
     byte(rt, 1);
     byte(rt, 2);
     byte(rt, 0x53);
     byte(rt, 0x80);
     byte(rt, 0xff);
-    values32(rt, 0);
-    values32(rt, 20);
-    values32(rt, 33);
-    values32(rt, 40);
-    values32(rt, 41);
-    values32(rt, 0x12345678);
-    values48(rt, 20);
-    values48(rt, 0x123456789abc);
+    values(rt, Field::Bits32, 0);
+    values(rt, Field::Bits32, 20);
+    values(rt, Field::Bits32, 33);
+    values(rt, Field::Bits32, 40);
+    values(rt, Field::Bits32, 41);
+    values(rt, Field::Bits32, 0x12345678);
+    values(rt, Field::Bits48, 20);
+    values(rt, Field::Bits48, 0x123456789abc);
     dots(rt, 20);
     dots(rt, 0x12345678);
     dot(rt, 7);

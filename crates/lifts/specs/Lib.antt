@@ -1,0 +1,2 @@
+-- The definitions that the contracts of `lifts` cite.
+pub mod Fields

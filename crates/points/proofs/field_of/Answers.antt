@@ -1,0 +1,9 @@
+-- A valid set's field is that of 32 bits or that of 48.
+use Rattle.points.proofs.Laws.{powers_32, powers_48}
+use Rattle.points.proofs.field_of.Goals as goal
+
+pub returns-then-shape-eq4-clause-powers : goal.returns-then-shape-eq4-clause-powers
+returns-then-shape-eq4-clause-powers c = powers_32 c.args.shape c.if-shape-eq4.true
+
+pub returns-else-shape-eq4-clause-powers : goal.returns-else-shape-eq4-clause-powers
+returns-else-shape-eq4-clause-powers c = powers_48 c.args.shape c.if-shape-eq4.false
