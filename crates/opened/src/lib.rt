@@ -13,11 +13,7 @@ use banquet::Shape;
 pub fn sum(s: &[u64]) -> u64
     ensures { result ≡ xor_sum (length s.now) (λ k. get_or s.now k 0) }
 {
-    let mut x: u64 = 0;
-    for k in 0..s.len() {
-        x = x ^ s[k];
-    }
-    x
+    s.iter().fold(0, |sum, x| sum ^ x)
 }
 
 // For each j what the tables give for the bytes j, j + m1, ..
@@ -25,7 +21,7 @@ pub fn rows(shape: Shape, bytes: &[u8], tables: &[u64], out: &mut [u64])
     requires { Valid shape × (length bytes.now ≡ sboxes shape) × (length tables.now ≡ 640) × (length out.old ≡ shape.m1) }
     ensures { out.new ≡ tab (tabled_row shape bytes.now tables.now) shape.m1 }
 {
-    for j in 0..out.len() {
-        out[j] = dots::dot_tables(tables, bytes, shape.m2, shape.m1, j);
+    for (j, row) in out.iter_mut().enumerate() {
+        *row = dots::dot_tables(tables, bytes, shape.m2, shape.m1, j);
     }
 }

@@ -24,9 +24,9 @@ pub fn values_s(
         shape.m1 }
 {
     let bits = (8 * shape.wide) as u32;
-    for j in 0..out.len() {
+    for (j, value) in out.iter_mut().enumerate() {
         let scaled = gf::mul(bits, shape.low, first[j], rows[j]);
-        out[j] = scaled ^ gf::mul(bits, shape.low, extra[2 * j], last);
+        *value = scaled ^ gf::mul(bits, shape.low, extra[2 * j], last);
     }
 }
 
@@ -37,7 +37,7 @@ pub fn values_t(shape: Shape, rows: &[u64], extra: &[u64], last: u64, out: &mut 
         ≡ tab (λ j. value_t shape (get_or rows.now j 0) (get_or extra.now (2 * j + 1) 0) last) shape.m1 }
 {
     let bits = (8 * shape.wide) as u32;
-    for j in 0..out.len() {
-        out[j] = rows[j] ^ gf::mul(bits, shape.low, extra[2 * j + 1], last);
+    for (j, value) in out.iter_mut().enumerate() {
+        *value = rows[j] ^ gf::mul(bits, shape.low, extra[2 * j + 1], last);
     }
 }

@@ -1,0 +1,9 @@
+-- The loop fills the slice.
+use Rattle.std.proofs.Common.{◌*◌, get_or}
+use Rattle.slices.proofs.Fill.{Filling}
+use Rattle.forms.specs.Point.{value_s}
+use Rattle.st_values.proofs.values_s.Given as goal
+
+abbrev pub invariant-loop-j : goal.invariant-loop-j
+invariant-loop-j l =
+    Filling (λ j. value_s l.shape (get_or l.first j 0) (get_or l.rows j 0) (get_or l.extra (2 * j) 0) l.last) l.shape.m1 l.fn.out l.j l.out
