@@ -24,7 +24,7 @@ pub fn first_input(public: &[u8], message: &[u8], salt: &[u8]) -> Sponge
 pub fn tagged(tag: u8, h: &[u8]) -> Sponge
     ensures { result ≡ absorbed empty (tag ∷ h.now) }
 {
-    let a = absorb::absorb(stream::new(), &[tag]);
+    let a = absorb::absorb(Sponge::new(), &[tag]);
     absorb::absorb(a, h)
 }
 

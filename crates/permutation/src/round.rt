@@ -37,15 +37,14 @@ pub fn with_mask(s: State) -> State
 }
 
 // A lane rotated by n modulo 64.
-fn rotated(a: u64, n: u64) -> u64
+fn rotated(a: u64, n: u32) -> u64
     ensures { result ≡ rotl a (n % 64) }
 {
-    let k = n % 64;
-    a << k | a >> (64 - k) % 64
+    a.rotate_left(n)
 }
 
 // A plane, the lane of number x rotated by nx.
-fn rotate(a: Plane, n0: u64, n1: u64, n2: u64, n3: u64, n4: u64) -> Plane
+fn rotate(a: Plane, n0: u32, n1: u32, n2: u32, n3: u32, n4: u32) -> Plane
     ensures { plane result ≡ rho_plane (n0 ∷ n1 ∷ n2 ∷ n3 ∷ n4 ∷ []) (plane a) }
 {
     Plane(
@@ -68,7 +67,7 @@ fn effects(s: State) -> Plane
 }
 
 // Theta, step 3, and algorithm 2, rho, on a plane.
-fn theta_rho(a: Plane, d: Plane, n0: u64, n1: u64, n2: u64, n3: u64, n4: u64) -> Plane
+fn theta_rho(a: Plane, d: Plane, n0: u32, n1: u32, n2: u32, n3: u32, n4: u32) -> Plane
     ensures { plane result ≡ rho_plane (n0 ∷ n1 ∷ n2 ∷ n3 ∷ n4 ∷ []) (zip_xor (plane a) (plane d)) }
 {
     rotate(add(a, d), n0, n1, n2, n3, n4)

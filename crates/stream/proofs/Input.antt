@@ -6,9 +6,9 @@ use native.Mathlib.Nat.{add-zero, mul-one}
 use native.Mathlib.Numerals.{add-one}
 use native.Mathlib.Omega.{arith}
 use lib.Bits.{bit_xor}
-use lib.ListN.{length, get_or, set, take}
+use lib.ListN.{length, get_or, set, take, drop, take-append-drop}
 use lib.Pow.{shl_exact}
-use lib.Seq.{take-add}
+use lib.Seq.{length-take-le}
 use Rattle.slices.specs.Lists.{part}
 use Rattle.slices.specs.Tab.{length_part, part_append}
 use Rattle.slices.specs.Bytes.{Bytes, part_bytes}
@@ -64,14 +64,14 @@ absorbed_next s₀ a m src j i {p} {p'} {x} hs room at end fits e v =
     ∙ ap (λ t. absorbed t q) e ∙ sym (absorbed_append s₀ (part j (8 * i) src) q)
     ∙ ap (absorbed s₀) (sym (part_append j (8 * i) 8 src) ∙ ap (λ n. part j n src) (sym more))
 
--- a turn of absorb's loop: w bytes more, by the sponge made ready
-pub absorb_turn : (s₀ : Sponge) (src : List ℕ) (j w : ℕ) {s r t : Sponge} → s ≡ absorbed s₀ (take j src) → r ≡ ready s → 0 < w → j + w ≤ length src
-    → t ≡ absorbed r (part j w src) → t ≡ absorbed s₀ (take (j + w) src)
-absorb_turn s₀ src j w {s} e r some fits f =
-    let q = part j w src in
-    let size : length q ≡ w = length_part j w src fits in
-    f ∙ ap (λ t. absorbed t q) r ∙ absorbed_ready s q (omega arith)
-    ∙ ap (λ t. absorbed t q) e ∙ sym (absorbed_append s₀ (take j src) q) ∙ ap (absorbed s₀) (sym (take-add j w src))
+-- a turn of absorb's loop: w bytes more, by the sponge made ready; what is left then is absorbed as all that was left
+pub absorb_turn : (s : Sponge) (src : List ℕ) (w : ℕ) {r t : Sponge} → r ≡ ready s → 0 < w → w ≤ length src → t ≡ absorbed r (take w src)
+    → absorbed t (drop w src) ≡ absorbed s src
+absorb_turn s src w e some fits f =
+    let q = take w src in
+    let size : length q ≡ w = length-take-le w src fits in
+    ap (λ t. absorbed t (drop w src)) (f ∙ ap (λ t. absorbed t q) e ∙ absorbed_ready s q (omega arith))
+    ∙ sym (absorbed_append s q (drop w src)) ∙ ap (absorbed s) (take-append-drop w src)
 
 -- a byte that finish adds: moved to its place it loses no bit
 pub xor_at_shifted : (a : List ℕ) (p b : ℕ) → b < 256 → set a (p / 8) (bit_xor (get_or a (p / 8) 0) (b * 2 ^ (8 * (p % 8)) % 2 ^ 64)) ≡ xor_at a p b

@@ -12,12 +12,14 @@ pub struct Sponge {
     pub at: usize,
 }
 
-pub fn new() -> Sponge
-    ensures { result ≡ empty }
-{
-    Sponge {
-        lanes: [0u64; 25],
-        at: 0,
+impl Sponge {
+    pub fn new() -> Self
+        ensures { result ≡ empty }
+    {
+        Sponge {
+            lanes: [0u64; 25],
+            at: 0,
+        }
     }
 }
 
@@ -25,8 +27,7 @@ pub fn new() -> Sponge
 pub fn piece(at: usize, left: usize) -> usize
     ensures { result ≡ min (8 - at % 8) left }
 {
-    let room = 8 - at % 8;
-    if room < left { room } else { left }
+    left.min(8 - at % 8)
 }
 
 // How many lanes the bytes that are left fill, up to the end of the block, where byte `at` begins a lane.
@@ -34,6 +35,5 @@ pub fn whole(at: usize, left: usize) -> usize
     requires { at ≤ rate }
     ensures { result ≡ min (rate - at) left / 8 }
 {
-    let room = 168 - at;
-    if room < left { room / 8 } else { left / 8 }
+    left.min(168 - at) / 8
 }

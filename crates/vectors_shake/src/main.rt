@@ -20,7 +20,7 @@ fn write_number(rt: HostRuntime, n: usize) {
 fn pieces(src: &[u8], piece: usize) -> stream::Sponge
     requires { (0 < piece) × (piece ≤ 100000) × (length src.now ≤ 100000) }
 {
-    let mut s = stream::new();
+    let mut s = stream::Sponge::new();
     for part in src.chunks(piece) {
         s = absorb::absorb(s, part);
     }
