@@ -1,8 +1,5 @@
 -- A layout written field by field. Assumes nothing.
-use mathlib.Core.Path.{◌≡◌, sym, ap, subst, ◌∙◌}
-use mathlib.Core.List.{List, ◌++◌}
-use Prim.Native.Nat.{ℕ, suc}
-use lib.ListN.{length, get_or, take}
+use Rattle.std.proofs.Common.{◌≡◌, sym, ap, subst, ◌∙◌, List, ◌++◌, ℕ, suc, length, get_or, take}
 use Rattle.slices.specs.Lists.{put}
 use Rattle.slices.specs.Layout.{total}
 use Rattle.slices.proofs.Put.{Wrote, wrote_more}

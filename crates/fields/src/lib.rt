@@ -9,11 +9,7 @@ pub fn offset(sizes: &[usize], k: usize) -> usize
     requires { (k ≤ length sizes.now) × (total sizes.now < 2 ^ 63) }
     ensures { result ≡ total (take k sizes.now) }
 {
-    let mut at = 0;
-    for i in 0..k {
-        at += sizes[i];
-    }
-    at
+    sizes[..k].iter().sum()
 }
 
 // Field k, a part of the slice itself.

@@ -1,8 +1,5 @@
 -- `fields::field` meets its contract: the part from its offset to the next. Assumes nothing.
-use Prim.Native.Nat.{◌≤◌}
-use native.Mathlib.Omega.{arith}
-use lib.ListN.{length}
-use borrow.Author.Rules.{rules}
+use Rattle.std.proofs.Common.{◌≤◌, arith, length, rules}
 use Rattle.fields.specs.Offsets.{field_order, field_fits, field_between}
 use Rattle.fields.proofs.field.Statement.{statement}
 use Rattle.fields.proofs.field.Tie as tie
