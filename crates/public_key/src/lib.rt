@@ -5,7 +5,7 @@ ghost use Rattle.std.specs.Prelude.{◌≡◌};
 ghost use Rattle.banquet.specs.Sets.{base_scheme};
 ghost use Rattle.banquet.specs.Calls.{written, make_public_key};
 
-use banquet::Answer;
+use banquet::{Answer, Refusal};
 use sets::Parties16;
 
 // "The first that applies is returned." Accepted, the output begins with the public key, and "Output beyond the stated length is untouched"; refused,
@@ -15,18 +15,14 @@ pub fn make_public_key(key: &[u8], plaintext: &[u8], output: &mut [u8]) -> Answe
         ≡ make_public_key base_scheme key.now plaintext.now output.old }
 {
     let shape = Parties16::SHAPE;
-    let refusal = lengths::public_key(shape, key.len(), plaintext.len(), output.len());
-    match refusal {
-        Answer::Accepted => {}
-        _ => return refusal,
-    }
+    lengths::public_key(shape, key.len(), plaintext.len(), output.len())?;
     let mut inputs = [0u8; 200];
     let ciphertext = cipher::encrypt(key, plaintext, &mut inputs);
     // The key schedule's inputs with the rounds': "Some S-box input under the lent key is zero; place is the lowest S-box."
-    if let Some(zero) = sbox_inputs::first_zero(&inputs[0..200]) {
-        return Answer::ZeroInput(zero as u8);
+    if let Some(zero) = sbox_inputs::first_zero(&inputs) {
+        return Err(Refusal::ZeroInput(zero as u8));
     }
     slices::copy_at(output, 0, plaintext);
     slices::copy_at(output, 16, &ciphertext);
-    Answer::Accepted
+    Ok(())
 }
