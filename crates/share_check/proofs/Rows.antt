@@ -1,13 +1,13 @@
 -- The rows of all parties, worked out and stated: their sizes, and what their comparison answers. Assumes nothing.
-use Rattle.std.specs.Prelude.{Err}
+use Rattle.std.specs.Prelude.{Option, Some, None, Err}
 use mathlib.Core.Path.{◌≡◌, refl, sym, ap, ap₂, ◌∙◌}
 use mathlib.Core.Bool.{◌||◌}
 use mathlib.Core.List.{List, ◌++◌}
-use Prim.Native.Nat.{ℕ, ◌*◌, ◌/◌, ◌-◌, ◌^◌, ◌<◌, ◌≤◌}
+use Prim.Native.Nat.{ℕ, ◌*◌, ◌/◌, ◌-◌, ◌^◌, ◌<◌}
 use native.Mathlib.Omega.{arith}
 use lib.Dec.{eqb}
 use lib.ListN.{length, take, drop, length-append}
-use Rattle.slices.specs.Lists.{rows, row, same, sum_xor}
+use Rattle.slices.specs.Lists.{found, rows, row, same, sum_xor}
 use Rattle.slices.specs.Tab.{length_rows, row_of_rows}
 use Rattle.slices.specs.Sums.{sum_xor_cong}
 use Rattle.slices.specs.Numbers.{number_lt, length_bytes_of, length_numbers}
@@ -25,7 +25,7 @@ use Rattle.banquet.specs.Execution.{challenge, output_share}
 use Rattle.banquet.specs.Opening.{transcript_part, committed_of, shares_hold, outputs_hold, product_holds, execution_of, tape_under, check_shares}
 use Rattle.theorems.specs.Keys.{sized_front}
 use Rattle.theorems.specs.Shares.{Fits, hashed_tape, sized_output_share}
-use Rattle.scratch.specs.Each.{each_found, each_none, each_cong}
+use Rattle.scratch.specs.Each.{each_some, each_no, each_cong}
 use Rattle.sets.specs.Laws.{laws}
 use Rattle.sets.specs.Bounds.{row_sizes}
 use Rattle.forms.specs.Party.{share_row, committed}
@@ -134,17 +134,17 @@ module _ {S : Shape} {public_key t : List ℕ} {e second : ℕ} (g : Given S pub
 
 -- ---- the rows compared
 
-module _ (S : Shape) (ciphertext : List ℕ) (e hidden : ℕ) (made stated : List ℕ) {len found : ℕ} (size : len ≡ total (row_sizes S))
-    (f : found ≡ lowest S.parties 0 (λ i. eqb i hidden || same (row len i made) (row len i stated))) where
-  lowest_is : found ≡ lowest S.parties 0 (λ i. eqb i hidden || same (row (total (row_sizes S)) i made) (row (total (row_sizes S)) i stated))
-  lowest_is = f ∙ ap (λ n. lowest S.parties 0 (λ i. eqb i hidden || same (row n i made) (row n i stated))) size
+module _ (S : Shape) (ciphertext : List ℕ) (e hidden : ℕ) (made stated : List ℕ) {len : ℕ} (size : len ≡ total (row_sizes S)) where
+  -- the first of them that differs
+  abbrev differing : ℕ → Option ℕ
+  differing n = found S.parties (lowest S.parties 0 (λ i. eqb i hidden || same (row n i made) (row n i stated)))
 
-  pub row_differs : found < S.parties → Err (ShareDiffers found) ≡ rows_answer S ciphertext e hidden made stated
+  pub row_differs : {i : ℕ} → Some i ≡ differing len → Err (ShareDiffers i) ≡ rows_answer S ciphertext e hidden made stated
   unfolding rows_answer
-  row_differs l = sym (each_found _ ShareDiffers _ S.parties lowest_is l)
+  row_differs f = sym (each_some _ ShareDiffers _ S.parties (f ∙ ap differing size))
 
-  pub rows_agree : {r : Answer} → S.parties ≤ found
+  pub rows_agree : {r : Answer} → None ≡ differing len
       → r ≡ sums_answer S ciphertext e (sum_xor S.parties (λ i. row (total (row_sizes S)) i stated))
       → r ≡ rows_answer S ciphertext e hidden made stated
   unfolding rows_answer
-  rows_agree l w = w ∙ sym (each_none _ ShareDiffers _ S.parties lowest_is l)
+  rows_agree f w = w ∙ sym (each_no _ ShareDiffers _ S.parties (f ∙ ap differing size))

@@ -11,7 +11,7 @@ ghost use Rattle.sets.specs.Bounds.{row_sizes};
 ghost use Rattle.forms.specs.Stated.{stated_row};
 ghost use Rattle.share_check.specs.Steps.{Given, made_row, rows_answer};
 
-use banquet::{Answer, Shape};
+use banquet::{Answer, Refusal, Shape};
 
 // The stated rows of all parties, and behind them those worked out from the seeds.
 fn fill_rows(
@@ -63,9 +63,8 @@ fn compare_rows(
         ≡ rows_answer shape ciphertext.now e hidden made.now stated.now }
 {
     let len = sets::row_length(shape);
-    let found = compare::first_difference(shape.parties, len, hidden, made, stated);
-    if found < shape.parties {
-        return Answer::ShareDiffers(found as u8);
+    if let Some(i) = compare::first_difference(shape.parties, len, hidden, made, stated) {
+        return Err(Refusal::ShareDiffers(i as u8));
     }
     let mut sums = [0u8; 142];
     sum_check::check_sums(shape, ciphertext, e, stated, &mut sums[0..len])

@@ -8,7 +8,7 @@ ghost use Rattle.sets.specs.Valid.{Valid};
 ghost use Rattle.sets.specs.Bounds.{row_sizes};
 ghost use Rattle.forms.specs.Sums.{sums_answer};
 
-use banquet::{Answer, Shape};
+use banquet::{Answer, Refusal, Shape};
 
 // The end of the check: the sum of the output shares is the ciphertext, and the product holds.
 pub fn check_sums(shape: Shape, ciphertext: &[u8], e: u8, rows: &[u8], sums: &mut [u8]) -> Answer
@@ -20,7 +20,7 @@ pub fn check_sums(shape: Shape, ciphertext: &[u8], e: u8, rows: &[u8], sums: &mu
     row_sums::sum_rows(shape.parties, rows, sums);
     let whole: &[u8] = sums;
     if !equal::equal(&whole[0..16], ciphertext) {
-        return Answer::ShareDiffers(shape.parties as u8);
+        return Err(Refusal::ShareDiffers(shape.parties as u8));
     }
     let sizes: &[usize] = &sets::row_sizes(shape);
     let holds = product::holds(
@@ -30,7 +30,7 @@ pub fn check_sums(shape: Shape, ciphertext: &[u8], e: u8, rows: &[u8], sums: &mu
         fields::field(sizes, 3, whole),
     );
     if !holds {
-        return Answer::ProductDiffers(e);
+        return Err(Refusal::ProductDiffers(e));
     }
-    Answer::Accepted
+    Ok(())
 }
