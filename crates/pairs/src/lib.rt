@@ -12,15 +12,9 @@ use banquet::{Answer, Verdict};
 pub fn make_pair(text: &[u8], public: &mut [u8]) -> Answer
     ensures { written result public.new ≡ make_pair base_scheme text.now public.old }
 {
-    let sizes = [32usize; 1];
     let mut pair = [0u8; 32];
-    let answer = text_lines::read_lines(text, &sizes, 0, &mut pair);
-    match answer {
-        Answer::Accepted => {}
-        _ => return answer,
-    }
-    let both = &pair[..];
-    public_key::make_public_key(&both[0..16], &both[16..32], public)
+    text_lines::read_lines(text, &[32], 0, &mut pair)?;
+    public_key::make_public_key(&pair[0..16], &pair[16..32], public)
 }
 
 // What is written for line n of the pairs, at the front of `out`; returns its length.
@@ -30,8 +24,7 @@ pub fn print_pair(verdict: Verdict, public: &[u8], n: u32, out: &mut [u8]) -> us
     ensures out_after { out.new ≡ pair_line verdict public.now n ++ drop result out.old }
 {
     if verdict.number == 0 {
-        let sizes = [32usize; 1];
-        encode_lines::encode_lines(public, &sizes, &mut out[0..65]);
+        encode_lines::encode_lines(public, &[32], &mut out[0..65]);
         return 65;
     }
     if verdict.number == 18 {

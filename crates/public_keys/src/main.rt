@@ -3,16 +3,15 @@
 // read or a write fails.
 #![tactic(auto)]
 
+use banquet::Refusal;
+
 // Answers line n, and returns whether another may follow.
 fn answer(rt: HostRuntime, pair: &[u8], n: u32) -> bool {
     let mut public = [0u8; 32];
-    let verdict = verdict::verdict(pairs::make_pair(pair, &mut public));
+    let made = pairs::make_pair(pair, &mut public);
     let mut line = [0u8; 65];
-    let end = pairs::print_pair(verdict, &public, n, &mut line);
-    if stdio::write(rt, &line[..end]) < end {
-        return false;
-    }
-    verdict.number != 18
+    let end = pairs::print_pair(verdict::verdict(made), &public, n, &mut line);
+    stdio::write(rt, &line[..end]) == end && !matches!(made, Err(Refusal::TextForm(_)))
 }
 
 fn main(rt: HostRuntime) {
