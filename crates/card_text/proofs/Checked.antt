@@ -5,7 +5,7 @@ use mathlib.Core.List.{List}
 use Prim.Native.Nat.{ℕ, ◌+◌, ◌-◌, ◌/◌, ◌≤◌, ◌<◌}
 use native.Mathlib.Nat.{sub-zero}
 use native.Mathlib.Omega.{arith}
-use lib.ListN.{length, take, drop}
+use lib.ListN.{length, take, drop, replicate, length-replicate}
 use Rattle.slices.specs.Layout.{total}
 use Rattle.banquet.specs.declared.Shape.{Shape}
 use Rattle.banquet.specs.Shape.{message_limit, public_key_length, signature_length}
@@ -13,7 +13,7 @@ use Rattle.banquet.specs.declared.Refusal.{Refusal}
 use Rattle.banquet.specs.Answer.{Answer, accepted, output_after}
 use Rattle.banquet.specs.Calls.{checked, checked_after, verify}
 use Rattle.banquet.specs.Card.{decoded, line_of, after_line, decoded_lines, check_lines, card_sizes, verify_card}
-use Rattle.banquet.specs.Sets.{scheme_of}
+use Rattle.banquet.specs.Sets.{base, scheme_of}
 use Rattle.card_sizes.specs.Lines.{lines_of, card_bytes, sizes_many, sizes_total, sizes_lent}
 use Rattle.card_text.specs.Reading.{form, card_broken, text_long, message_long, form_answer, key_part, message_part, signature_part}
 
@@ -88,3 +88,23 @@ module _ {S : Shape} {text : List ℕ} {lines : ℕ} {sizes : List ℕ} {a : Ans
           let second = message_part (scheme_of S) text held bytes d read k start_is to in
           let third = signature_part (scheme_of S) text held bytes d read k start_is to in
           (rw (first, second, third) at answered) ∙ ap (λ (x : Answer). checked_after x work) (sym (form_answer (scheme_of S) text held work))
+
+-- there is room for what the longest card stands for
+abbrev pub room : List ℕ
+room = replicate (card_bytes base message_limit) 0
+
+pub card_room : (S : Shape) (bytes : List ℕ) → card_bytes S message_limit ≤ card_bytes base message_limit → length bytes ≡ length room
+    → card_bytes S message_limit ≤ length bytes
+card_room S bytes most long = omega (arith, most, long, length-replicate {A = ℕ} (card_bytes base message_limit) 0)
+
+-- where the parts lie in the bytes that were read
+pub parts_lie : (S : Shape) (text sizes bytes : List ℕ) {lines key size : ℕ} {a : Answer}
+    → lines ≡ lines_of S → take (lines_of S) sizes ≡ card_sizes S message_limit → a ≡ check_lines 2 (take (lines - 0) sizes) 1 text accepted
+    → a ≡ accepted → key ≡ public_key_length S → size ≡ signature_length S
+    → card_bytes S message_limit ≤ card_bytes base message_limit → length bytes ≡ length room
+    → let end = (length text - lines) / 2 in
+    (lines ≤ length text) × (size ≤ end) × (key ≤ end - size) × (end - size ≤ end) × (end ≤ length bytes)
+parts_lie S text sizes bytes {lines} {key} {size} {a} many are answer h k s most long =
+    let t : Told S text lines sizes a = record { many = many; are = are; answer = answer } in
+    let w = parts_within t h k s bytes (card_room S bytes most long) in
+    (lines_within t h, w.0, w.1, w.2, w.3)

@@ -21,20 +21,15 @@ fn check_text(shape: Shape, text: &[u8], work: &mut [u8]) -> Answer
     let lines = card_sizes::lines(shape);
     let sizes = card_sizes::card_sizes(shape, banquet::MESSAGE_LIMIT);
     let mut bytes = [0u8; card_sizes::BYTES];
-    let answer = text_lines::read_lines(text, &sizes[0..lines], 2, &mut bytes);
-    match answer {
-        Answer::Accepted => {}
-        _ => return answer,
-    }
-    let read = &bytes[..];
+    text_lines::read_lines(text, &sizes[0..lines], 2, &mut bytes)?;
     let message = sets::public_key_length(shape);
     let end = (text.len() - lines) / 2;
     let signature = end - frames::signature_length(shape);
     check_signature::check(
         shape,
-        &read[0..message],
-        &read[message..signature],
-        &read[signature..end],
+        &bytes[0..message],
+        &bytes[message..signature],
+        &bytes[signature..end],
         work,
     )
 }
