@@ -21,8 +21,5 @@ pub fn print_card(text: &[u8]) -> Line
     let answer = card_text::verify_card(text, &mut work);
     let mut bytes = [0u8; 30];
     let length = print_verdict::print_verdict(verdict::verdict(answer), &mut bytes);
-    Line {
-        bytes: bytes,
-        length: length,
-    }
+    Line { bytes, length }
 }

@@ -10,7 +10,7 @@ ghost use Rattle.card_sizes.specs.Lines.{card_bytes};
 ghost use Rattle.requests.specs.Requests.{request_sizes, request_output};
 ghost use Rattle.requests.specs.Read.{Read};
 
-use banquet::{Answer, Shape};
+use banquet::Shape;
 use sets::Parties16;
 
 // The bytes that the longest request of document 01's set stands for: key, public key, message, salt, and a root seed for each execution.
@@ -58,7 +58,7 @@ fn sign_request(
     let public = &request[16..start];
     let message = &request[start..salt];
     let mut work = [0u8; banquet::WORK_LENGTH];
-    let answer = sign_message::sign_message(
+    if let Err(refusal) = sign_message::sign_message(
         shape,
         &request[0..16],
         public,
@@ -67,10 +67,8 @@ fn sign_request(
         &request[seeds..end],
         signature,
         &mut work,
-    );
-    match answer {
-        Answer::Accepted => {}
-        _ => return print_verdict::print_verdict(verdict::verdict(answer), out),
+    ) {
+        return print_verdict::print_verdict(verdict::verdict(Err(refusal)), out);
     }
     write_card::write_card(shape, public, message, signature, out)
 }
@@ -83,10 +81,8 @@ pub fn print_request(text: &[u8], out: &mut [u8]) -> usize
 {
     let sizes = request_sizes(Parties16::SHAPE);
     let mut request = [0u8; BYTES];
-    let answer = text_lines::read_lines(text, &sizes, 3, &mut request);
-    match answer {
-        Answer::Accepted => {}
-        _ => return print_verdict::print_verdict(verdict::verdict(answer), out),
+    if let Err(refusal) = text_lines::read_lines(text, &sizes, 3, &mut request) {
+        return print_verdict::print_verdict(verdict::verdict(Err(refusal)), out);
     }
     let mut signature = [0u8; card_sizes::SIGNATURE];
     sign_request(Parties16::SHAPE, text, &request, &mut signature, out)
