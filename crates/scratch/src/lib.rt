@@ -6,10 +6,9 @@ ghost use Rattle.banquet.specs.Shape.{work_length};
 ghost use Rattle.banquet.specs.Answer.{cleared};
 
 // "the work slice's first 65,536 bytes are zero and its rest untouched"
-#[tactic(auto, using(crate::proofs::Laws::front_cleared))]
 pub fn clear(work: &mut [u8])
     requires { work_length ≤ length work.old }
     ensures { work.new ≡ cleared work.old }
 {
-    work[0..banquet::WORK_LENGTH].fill(0);
+    slices::zero(&mut work[0..banquet::WORK_LENGTH]);
 }
