@@ -1,10 +1,11 @@
 -- The answers of the call: number 15 by the lowest execution whose product fails, and what the call leaves. Assumes nothing.
-use Rattle.std.specs.Prelude.{Err, IsErrAnd}
+use Rattle.std.specs.Prelude.{Option, Some, None, Err, IsErrAnd}
 use mathlib.Core.Path.{◌≡◌, refl, sym, ap, ◌∙◌}
 use mathlib.Core.Bool.{true}
 use mathlib.Core.List.{List}
-use Prim.Native.Nat.{ℕ, ◌<◌, ◌≤◌}
+use Prim.Native.Nat.{ℕ}
 use lib.ListN.{length}
+use Rattle.slices.specs.Lists.{found}
 use Rattle.compare.specs.Lowest.{lowest}
 use Rattle.banquet.specs.declared.Shape.{Shape}
 use Rattle.banquet.specs.declared.Refusal.{Refusal}
@@ -16,22 +17,24 @@ use Rattle.banquet.specs.Calls.{verify_tests, checked, checked_after, verify_ans
 use Rattle.banquet.proofs.Refusals.{test_at, passed_at}
 use Rattle.verdict.specs.Tests.{checked_refused}
 use Rattle.scratch.specs.Scratch.{Scratch}
-use Rattle.scratch.specs.Each.{each_found, each_none}
+use Rattle.scratch.specs.Each.{each_some, each_no}
 use Rattle.scratch.specs.Clears.{Clears, require_clears, each_clears, checked_cleared}
 use Rattle.check_signature.specs.Steps.{hashes_answer, signature_answer}
 
 module _ (S : Shape) (public_key message s : List ℕ) where
   open S use {executions}
 
-  -- found is the lowest execution whose product fails
-  module _ {found : ℕ} (f : found ≡ lowest executions 0 (λ e. frame_holds (scheme_of S) (frame_of (scheme_of S) s e))) where
-    pub product_refused : found < executions → Err (ProductDiffers found) ≡ signature_answer S public_key message s
-    unfolding check_signature
-    product_refused l = sym (each_found _ ProductDiffers _ executions f l)
+  -- the lowest execution whose product fails
+  abbrev failing : Option ℕ
+  failing = found executions (lowest executions 0 (λ e. frame_holds (scheme_of S) (frame_of (scheme_of S) s e)))
 
-    pub products_hold : executions ≤ found → signature_answer S public_key message s ≡ hashes_answer S public_key message s
-    unfolding check_signature
-    products_hold l = each_none _ ProductDiffers _ executions f l
+  pub product_refused : {e : ℕ} → Some e ≡ failing → Err (ProductDiffers e) ≡ signature_answer S public_key message s
+  unfolding check_signature
+  product_refused f = sym (each_some _ ProductDiffers _ executions f)
+
+  pub products_hold : None ≡ failing → signature_answer S public_key message s ≡ hashes_answer S public_key message s
+  unfolding check_signature
+  products_hold f = each_no _ ProductDiffers _ executions f
 
   -- acceptance and 15 to 17 leave the work slice's front zero
   signature_clears : Clears (signature_answer S public_key message s)

@@ -5,10 +5,10 @@ ghost use Rattle.std.specs.Prelude.{◌≡◌, [], ◌∷◌, ◌*◌, ◌≤◌
 ghost use Rattle.slices.specs.Lists.{rows as rows_of, same};
 ghost use Rattle.slices.specs.Layout.{total};
 ghost use Rattle.stream.specs.Stream.{absorbed, finished, squeezed};
-ghost use Rattle.banquet.specs.declared.Answer.TheVariants.{Accepted, FirstHashDiffers, ThirdHashDiffers};
+ghost use Rattle.banquet.specs.declared.Refusal.TheVariants.{FirstHashDiffers, ThirdHashDiffers};
 ghost use Rattle.banquet.specs.Shape.{head_length, work_length};
 ghost use Rattle.banquet.specs.Sets.{scheme_of};
-ghost use Rattle.banquet.specs.Answer.{in_order};
+ghost use Rattle.banquet.specs.Answer.{accepted, in_order};
 ghost use Rattle.banquet.specs.Signature.{signature_h1, signature_h3};
 ghost use Rattle.banquet.specs.Calls.{checked, verify};
 ghost use Rattle.sets.specs.Valid.{Valid};
@@ -16,7 +16,7 @@ ghost use Rattle.sets.specs.Bounds.{row_sizes};
 ghost use Rattle.scratch.specs.Scratch.{Scratch};
 ghost use Rattle.check_signature.specs.Steps.{Files, Drawn, h2_of, first_part, third_part, hashes_answer, signature_answer};
 
-use banquet::{Answer, Shape};
+use banquet::{Answer, Refusal, Shape};
 use frame_hashes::Hashes;
 
 // The parts of h1 and h3 of all executions, in one pass over the frames.
@@ -103,19 +103,19 @@ fn compare_hashes(s: &[u8], t: Hashes) -> Answer
     requires { head_length ≤ length s.now }
     ensures { result
         ≡ in_order ((same (squeezed (finished t.first) 32) (signature_h1 s.now), FirstHashDiffers)
-        ∷ (same (squeezed (finished t.third) 32) (signature_h3 s.now), ThirdHashDiffers) ∷ []) Accepted }
+        ∷ (same (squeezed (finished t.third) 32) (signature_h3 s.now), ThirdHashDiffers) ∷ []) accepted }
 {
     let mut first = [0u8; 32];
     hash_inputs::output(t.first, &mut first);
     if !equal::equal(&first, heads::h1(s)) {
-        return Answer::FirstHashDiffers;
+        return Err(Refusal::FirstHashDiffers);
     }
     let mut third = [0u8; 32];
     hash_inputs::output(t.third, &mut third);
     if !equal::equal(&third, heads::h3(s)) {
-        return Answer::ThirdHashDiffers;
+        return Err(Refusal::ThirdHashDiffers);
     }
-    Answer::Accepted
+    Ok(())
 }
 
 // Numbers 16 and 17, where h2 is the signature's own.
@@ -146,9 +146,8 @@ fn check_products(shape: Shape, public: &[u8], message: &[u8], s: &[u8], work: &
     ensures value { result ≡ signature_answer shape public.now message.now s.now }
     ensures scratch { Scratch work.old work.new }
 {
-    let found = frame_products::first_product(shape, s);
-    if found < shape.executions {
-        return Answer::ProductDiffers(found as u8);
+    if let Some(e) = frame_products::first_product(shape, s) {
+        return Err(Refusal::ProductDiffers(e as u8));
     }
     let h2 = second_hash::second_hash(shape, s);
     let mut commitments = [0u8; 4096];
@@ -171,11 +170,7 @@ pub fn check(shape: Shape, public: &[u8], message: &[u8], s: &[u8], work: &mut [
     ensures { checked result work.new
         ≡ verify (scheme_of shape) public.now message.now s.now work.old }
 {
-    let refusal = lengths::verify(shape, public.len(), message.len(), s.len(), work.len());
-    match refusal {
-        Answer::Accepted => {}
-        _ => return refusal,
-    }
+    lengths::verify(shape, public.len(), message.len(), s.len(), work.len())?;
     let answer = check_products(shape, public, message, s, work);
     scratch::clear(work);
     answer

@@ -2,7 +2,7 @@
 #![tactic(auto)]
 
 ghost use Rattle.std.specs.Prelude.{◌≡◌, ◌≤◌, length};
-ghost use Rattle.banquet.specs.declared.Answer.TheVariants.{Accepted};
+ghost use Rattle.banquet.specs.Answer.{accepted};
 ghost use Rattle.banquet.specs.Shape.{work_length, signature_length};
 ghost use Rattle.banquet.specs.Sets.{scheme_of};
 ghost use Rattle.banquet.specs.Key.{check_key};
@@ -27,7 +27,7 @@ fn sign_key(
     requires { Lengths shape key.now public.now salt.now seeds.now
         × (signature_length shape ≤ length out.old) × (work_length ≤ length work.old) }
     ensures { made result out.new work.new
-        ≡ made_after (check_key (scheme_of shape) public.now key.now Accepted)
+        ≡ made_after (check_key (scheme_of shape) public.now key.now accepted)
         (signature (scheme_of shape) key.now public.now message.now salt.now seeds.now)
         out.old work.old }
 {
@@ -36,11 +36,7 @@ fn sign_key(
     let mut inverted = [0u8; 200];
     let inputs = &mut given[0..n];
     let inverses = &mut inverted[0..n];
-    let answer = check_key::check_key(shape, key, public, inputs, inverses);
-    match answer {
-        Answer::Accepted => {}
-        _ => return answer,
-    }
+    check_key::check_key(shape, key, public, inputs, inverses)?;
     let size = frames::signature_length(shape);
     make_signature::make(
         shape,
@@ -55,7 +51,7 @@ fn sign_key(
         work,
     );
     scratch::clear(work);
-    Answer::Accepted
+    Ok(())
 }
 
 // The call, which refuses by lengths first.
@@ -74,7 +70,7 @@ pub fn sign_message(
         ≡ sign (scheme_of shape) key.now public.now message.now salt.now seeds.now
         out.old work.old }
 {
-    let refusal = lengths::sign(
+    lengths::sign(
         shape,
         key.len(),
         public.len(),
@@ -83,10 +79,6 @@ pub fn sign_message(
         seeds.len(),
         out.len(),
         work.len(),
-    );
-    match refusal {
-        Answer::Accepted => {}
-        _ => return refusal,
-    }
+    )?;
     sign_key(shape, key, public, message, salt, seeds, out, work)
 }
