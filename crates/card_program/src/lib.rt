@@ -21,5 +21,7 @@ pub fn run(rt: HostRuntime) {
         return;
     };
     let line = print_card::print_card(&text[..n]);
-    stdio::write(rt, &line.bytes[..line.length]);
+    let bytes = line.bytes;
+    let end = line.length;
+    stdio::write(rt, &bytes[..end]);
 }
