@@ -2,10 +2,10 @@
 use Rattle.std.specs.Prelude.{◌≡◌, ◌⊎◌, Bool, Option, Some, None}
 use Rattle.std.specs.Option.{MatchOption}
 use Rattle.std.proofs.Math.Path.{refl, ap}
-use Rattle.std.proofs.Common.{inl, inr, sym, ap₂, ◌∙◌}
+use Rattle.std.proofs.Common.{inl, inr, sym, ap₂, ◌∙◌, add-one}
 use Rattle.std.proofs.Math.Bool.{true, false}
 use Rattle.std.proofs.lemmas.Bool.{true≢false, cases_lt, cases_order}
-use Prim.Native.Nat.{ℕ, zero, suc, ◌+◌, ◌<◌, ◌≤◌}
+use Prim.Native.Nat.{ℕ, zero, suc, ◌+◌, ◌-◌, ◌<◌, ◌≤◌}
 use Rattle.std.proofs.Math.Decide.{ℕ_discrete}
 use native.Mathlib.Omega.{arith}
 use Rattle.slices.specs.Lists.{choose, found}
@@ -15,6 +15,25 @@ use Rattle.slices.specs.Found.{found_some, found_none}
 unfoldable pub lowest : ℕ → ℕ → (ℕ → Bool) → ℕ
 lowest zero i test = i
 lowest (suc n) i test = choose (test i) (lowest n (suc i) test) i
+
+-- ---- for a loop: at number i of n, and past the end
+
+-- what is left of a range is one more than what is left after its next number
+one_more : (n i : ℕ) → i < n → n - i ≡ suc (n - (i + 1))
+one_more n i h = omega arith
+
+module _ (test : ℕ → Bool) (n i : ℕ) where
+  pub lowest_here : i < n → test i ≡ false → lowest (n - i) i test ≡ i
+  unfolding lowest
+  lowest_here h t = simp (one_more n i h, t)
+
+  pub lowest_next : i < n → test i ≡ true → lowest (n - i) i test ≡ lowest (n - (i + 1)) (i + 1) test
+  unfolding lowest
+  lowest_next h t = rw (one_more n i h) (simp (t, add-one))
+
+  pub lowest_end : n ≤ i → lowest (n - i) i test ≡ i
+  unfolding lowest
+  lowest_end h = let e : n - i ≡ 0 = omega arith in simp e
 
 -- ---- which number it is, of the n numbers from i on
 

@@ -10,9 +10,17 @@ pub fn first_difference(n: usize, len: usize, hidden: usize, a: &[u8], b: &[u8])
     requires { (length a.now ≡ n * len) × (length b.now ≡ n * len) }
     ensures { result ≡ found n (lowest n 0 (λ i. eqb i hidden || same (row len i a.now) (row len i b.now))) }
 {
-    (0..n).find(|&i| {
-        let at = i * len;
-        let end = at + len;
-        i != hidden && a[at..end] != b[at..end]
-    })
+    let mut found = None;
+    'parties: for i in 0..n {
+        if i != hidden {
+            let at = i * len;
+            for k in at..at + len {
+                if a[k] != b[k] {
+                    found = Some(i);
+                    break 'parties;
+                }
+            }
+        }
+    }
+    found
 }
