@@ -1,14 +1,14 @@
 -- Number 13, and the seeds under which the shown parties are checked. Assumes nothing.
-use Rattle.std.specs.Prelude.{Err}
+use Rattle.std.specs.Prelude.{Option, Some, None, Err}
 use mathlib.Core.Path.{◌≡◌, refl, sym, ap, ap₂, ◌∙◌}
 use mathlib.Core.Bool.{◌||◌}
 use mathlib.Core.List.{List}
-use Prim.Native.Nat.{ℕ, ◌-◌, ◌*◌, ◌^◌, ◌<◌, ◌≤◌}
+use Prim.Native.Nat.{ℕ, ◌-◌, ◌*◌, ◌^◌, ◌<◌}
 use native.Mathlib.Omega.{arith}
 use lib.Dec.{eqb}
 use lib.ListN.{length, drop}
 use borrow.Rule.Slice.PartMut.{put_mid}
-use Rattle.slices.specs.Lists.{row, same}
+use Rattle.slices.specs.Lists.{found, row, same}
 use Rattle.slices.proofs.Rows.{row_front}
 use Rattle.shake.specs.Shake128.{shake128}
 use Rattle.compare.specs.Lowest.{lowest, lowest_cong}
@@ -19,7 +19,7 @@ use Rattle.banquet.specs.Sets.{scheme_of}
 use Rattle.banquet.specs.Hash.{commitment}
 use Rattle.banquet.specs.Tree.{node_seeds, shown_leaves}
 use Rattle.banquet.specs.Opening.{salt_of, commitment_of, shown_seed, commitment_holds, shares_hold, check_shares, check_parties}
-use Rattle.scratch.specs.Each.{each_found, each_none, each_cong}
+use Rattle.scratch.specs.Each.{each_some, each_no, each_cong}
 use Rattle.tree.specs.Rows.{row_shown}
 use Rattle.share_check.specs.Steps.{Given}
 
@@ -43,25 +43,26 @@ module _ {S : Shape} {public_key t : List ℕ} {e second : ℕ} (g : Given S pub
       row_front 16 i leaves (drop (n - 0) d) (omega (arith, leaves_long, g.valid.leaves)) ∙ ap (row 16 i) is
       ∙ row_shown (salt_of (scheme_of S) t) e depth 0 siblings hidden long i (omega (arith, g.valid.leaves)) ∙ rw g.e_is refl
 
-  module _ {found : ℕ}
-      (f : found ≡ lowest parties 0
-      (λ i. eqb i hidden || same (commitment (scheme_of S) (salt_of (scheme_of S) t) e i (row 16 i seeds)) (commitment_of (scheme_of S) t i))) where
-    tested : found ≡ lowest parties 0 (λ i. eqb i hidden || commitment_holds (scheme_of S) t i (shown i))
+  -- the first commitment that differs
+  module _ {differs : Option ℕ}
+      (f : differs ≡ found parties (lowest parties 0
+      (λ i. eqb i hidden || same (commitment (scheme_of S) (salt_of (scheme_of S) t) e i (row 16 i seeds)) (commitment_of (scheme_of S) t i)))) where
+    tested : differs ≡ found parties (lowest parties 0 (λ i. eqb i hidden || commitment_holds (scheme_of S) t i (shown i)))
     unfolding commitment_holds
     tested =
-        f ∙ lowest_cong parties (λ i l. ap₂
+        f ∙ ap (found parties) (lowest_cong parties (λ i l. ap₂
         (λ (x : ℕ) (s : List ℕ). eqb i hidden || same (commitment (scheme_of S) (salt_of (scheme_of S) t) x i s) (commitment_of (scheme_of S) t i))
-        g.e_is (seed_is i l))
+        g.e_is (seed_is i l)))
 
-    pub commitment_refused : found < parties → Err (CommitmentDiffers found) ≡ check_parties (scheme_of S) public_key t hidden shown
+    pub commitment_refused : {i : ℕ} → differs ≡ Some i → Err (CommitmentDiffers i) ≡ check_parties (scheme_of S) public_key t hidden shown
     unfolding check_parties
-    commitment_refused l = sym (each_found _ CommitmentDiffers _ parties tested l)
+    commitment_refused d = sym (each_some _ CommitmentDiffers _ parties (sym d ∙ tested))
 
     shares_same : check_shares (scheme_of S) public_key t hidden (λ i. row 16 i seeds) ≡ check_shares (scheme_of S) public_key t hidden shown
     unfolding check_shares
     shares_same = each_cong ShareDiffers parties (λ i l. ap (λ s. eqb i hidden || shares_hold (scheme_of S) public_key t i s) (seed_is i l)) refl
 
-    pub commitments_passed : {r : Answer} → parties ≤ found → r ≡ check_shares (scheme_of S) public_key t hidden (λ i. row 16 i seeds)
+    pub commitments_passed : {r : Answer} → differs ≡ None → r ≡ check_shares (scheme_of S) public_key t hidden (λ i. row 16 i seeds)
         → r ≡ check_parties (scheme_of S) public_key t hidden shown
     unfolding check_parties
-    commitments_passed l w = w ∙ shares_same ∙ sym (each_none _ CommitmentDiffers _ parties tested l)
+    commitments_passed d w = w ∙ shares_same ∙ sym (each_no _ CommitmentDiffers _ parties (sym d ∙ tested))

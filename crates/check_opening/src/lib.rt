@@ -11,7 +11,7 @@ ghost use Rattle.sets.specs.Valid.{Valid};
 ghost use Rattle.scratch.specs.Scratch.{Scratch};
 ghost use Rattle.share_check.specs.Steps.{Given};
 
-use banquet::{Answer, Shape};
+use banquet::{Answer, Refusal, Shape};
 
 // Numbers 13, 14 and 15, under the seeds that the sibling seeds expand to.
 fn check_parties(
@@ -45,7 +45,7 @@ fn check_parties(
     );
     let leaves: &[u8] = &seeds;
     let c = shape.parties * 32;
-    let found = commitment_check::first_commitment(
+    let differs = commitment_check::first_commitment(
         shape,
         transcript,
         e,
@@ -53,8 +53,8 @@ fn check_parties(
         leaves,
         &mut work[0..c],
     );
-    if found < shape.parties {
-        return Answer::CommitmentDiffers(found as u8);
+    if let Some(i) = differs {
+        return Err(Refusal::CommitmentDiffers(i as u8));
     }
     let r = 2 * (shape.parties * sets::row_length(shape));
     share_check::check_rows(
@@ -95,11 +95,7 @@ fn check_ranges(
 {
     let e = transcript[32];
     let second = second_of(shape, transcript);
-    let refusal = lengths::ranges(shape, e as usize, hidden, second);
-    match refusal {
-        Answer::Accepted => {}
-        _ => return refusal,
-    }
+    lengths::ranges(shape, e as usize, hidden, second)?;
     let answer = check_parties(shape, public, transcript, e, second, hidden, siblings, work);
     scratch::clear(work);
     answer
@@ -111,11 +107,7 @@ pub fn check(shape: Shape, public: &[u8], opening: &[u8], work: &mut [u8]) -> An
     ensures { checked result work.new
         ≡ verify_opening (scheme_of shape) public.now opening.now work.old }
 {
-    let refusal = lengths::verify_opening(shape, public.len(), opening.len(), work.len());
-    match refusal {
-        Answer::Accepted => {}
-        _ => return refusal,
-    }
+    lengths::verify_opening(shape, public.len(), opening.len(), work.len())?;
     let end = opening_sizes::transcript_length(shape);
     let whole = opening.len();
     let hidden = opening[end] as usize;

@@ -1,5 +1,4 @@
 -- The ranges in the call's order, then the parties, and the front is zero.
-use borrow.Enum.Refused.{opened}
 use Rattle.std.proofs.Common.{◌≡◌, arith, get_or}
 use Rattle.slices.specs.Bytes.{bytes_of}
 use Rattle.banquet.specs.Sets.{scheme_of}
@@ -7,14 +6,14 @@ use Rattle.banquet.specs.Opening.{execution_of}
 use Rattle.check_opening.proofs.Ranges.{execution_is, ranges_refused, parties_checked}
 use Rattle.check_opening.proofs.check_ranges.Goals as goal
 
-pub returns-in_default : goal.returns-in_default
-returns-in_default c =
+pub returns-in_err-ranges : goal.returns-in_err-ranges
+returns-in_err-ranges c =
     let a = c.args in
     -- the execution is a byte
     let numbered : get_or a.transcript.now 32 0 ≡ execution_of (scheme_of a.shape) a.transcript.now =
     execution_is a.shape a.transcript.now (omega (arith, c.requires.2)) in
     ranges_refused a.shape a.public.now a.transcript.now a.hidden a.siblings.now a.work.now numbered c.second_of-second.ensures
-    c.ranges-refusal.ensures (opened c.in_default.in_default-own.keys2)
+    c.ranges-2.ensures c.in_err-ranges.was c.from_residual.ensures.1
 
 pub check_parties-answer-requires : goal.check_parties-answer-requires
 check_parties-answer-requires c =
@@ -36,4 +35,4 @@ returns c =
     let numbered : get_or a.transcript.now 32 0 ≡ execution_of (scheme_of a.shape) a.transcript.now =
     execution_is a.shape a.transcript.now (omega (arith, c.requires.2)) in
     parties_checked a.shape a.public.now a.transcript.now a.hidden a.siblings.now a.work.now numbered c.second_of-second.ensures
-    c.ranges-refusal.ensures c.in-Accepted.is c.check_parties-answer.ensures.value c.check_parties-answer.ensures.scratch c.clear.ensures
+    c.ranges-2.ensures c.in_ok-ranges.was c.check_parties-answer.ensures.value c.check_parties-answer.ensures.scratch c.clear.ensures
