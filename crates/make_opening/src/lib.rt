@@ -5,9 +5,8 @@ ghost use Rattle.std.specs.Prelude.{◌≡◌, ◌*◌, ◌≤◌, length};
 ghost use Rattle.slices.specs.Layout.{total};
 ghost use Rattle.shake.specs.Shake128.{shake128};
 ghost use Rattle.banquet.specs.Shape.{work_length, opening_length, product_points};
-ghost use Rattle.banquet.specs.declared.Answer.TheVariants.{Accepted};
 ghost use Rattle.banquet.specs.Sets.{scheme_of};
-ghost use Rattle.banquet.specs.Answer.{output_after};
+ghost use Rattle.banquet.specs.Answer.{accepted, output_after};
 ghost use Rattle.banquet.specs.Tree.{node_seeds, leaves};
 ghost use Rattle.banquet.specs.Opening.{opening};
 ghost use Rattle.sets.specs.Bounds.{row_sizes};
@@ -116,7 +115,7 @@ pub fn make(
         × Ranges shape e second hidden × Inverted shape key.now public.now inputs.now inverses.now
         × (opening_length shape ≤ length out.old) × (work_length ≤ length work.old) }
     ensures out_after { out.new
-        ≡ output_after Accepted (opening (scheme_of shape) key.now public.now salt.now root.now
+        ≡ output_after accepted (opening (scheme_of shape) key.now public.now salt.now root.now
         first.now e second hidden) out.old }
     ensures scratch { Scratch work.old work.new }
 {

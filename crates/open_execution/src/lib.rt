@@ -2,10 +2,9 @@
 #![tactic(auto)]
 
 ghost use Rattle.std.specs.Prelude.{◌≡◌, ◌*◌, ◌^◌, ◌<◌, ◌≤◌, length};
-ghost use Rattle.banquet.specs.declared.Answer.TheVariants.{Accepted};
 ghost use Rattle.banquet.specs.Shape.{work_length, opening_length};
 ghost use Rattle.banquet.specs.Sets.{scheme_of};
-ghost use Rattle.banquet.specs.Answer.{in_order};
+ghost use Rattle.banquet.specs.Answer.{accepted, in_order};
 ghost use Rattle.banquet.specs.Key.{check_key};
 ghost use Rattle.banquet.specs.Opening.{range_tests, opening};
 ghost use Rattle.banquet.specs.Calls.{made, made_after, open_execution};
@@ -31,30 +30,22 @@ fn open_key(
     requires { Lengths shape key.now public.now salt.now root.now first.now
         × (second < 2 ^ (8 * shape.wide)) × (opening_length shape ≤ length out.old) × (work_length ≤ length work.old) }
     ensures { made result out.new work.new
-        ≡ made_after (in_order (range_tests shape e hidden second) (check_key (scheme_of shape) public.now key.now Accepted))
+        ≡ made_after (in_order (range_tests shape e hidden second) (check_key (scheme_of shape) public.now key.now accepted))
         (opening (scheme_of shape) key.now public.now salt.now root.now first.now e second hidden)
         out.old work.old }
 {
-    let refusal = lengths::ranges(shape, e, hidden, second);
-    match refusal {
-        Answer::Accepted => {}
-        _ => return refusal,
-    }
+    lengths::ranges(shape, e, hidden, second)?;
     let n = shape.m1 * shape.m2;
     let mut given = [0u8; 200];
     let mut inverted = [0u8; 200];
     let inputs = &mut given[0..n];
     let inverses = &mut inverted[0..n];
-    let answer = check_key::check_key(shape, key, public, inputs, inverses);
-    match answer {
-        Answer::Accepted => {}
-        _ => return answer,
-    }
+    check_key::check_key(shape, key, public, inputs, inverses)?;
     make_opening::make(
         shape, key, public, salt, root, first, e as u8, second, hidden, inputs, inverses, out, work,
     );
     scratch::clear(work);
-    Answer::Accepted
+    Ok(())
 }
 
 // The call, which refuses by lengths first.
@@ -76,7 +67,7 @@ pub fn open_execution(
         ≡ open_execution (scheme_of shape) key.now public.now salt.now root.now first.now
         e second hidden out.old work.old }
 {
-    let refusal = lengths::open(
+    lengths::open(
         shape,
         key.len(),
         public.len(),
@@ -85,11 +76,7 @@ pub fn open_execution(
         first.len(),
         out.len(),
         work.len(),
-    );
-    match refusal {
-        Answer::Accepted => {}
-        _ => return refusal,
-    }
+    )?;
     open_key(
         shape, key, public, salt, root, first, e, second, hidden, out, work,
     )

@@ -1,10 +1,7 @@
 -- The lengths are tested in order.
 use Rattle.std.proofs.Common.{◌∙◌, refl, sym, ap, length}
 use borrow.Author.Tests.{eqb-true, leb-true}
-use borrow.Enum.Refused.{opened}
-use Rattle.banquet.specs.declared.Answer.{Answer}
-use Rattle.banquet.specs.declared.Answer.TheVariants.{Accepted}
-use Rattle.banquet.specs.Answer.{in_order}
+use Rattle.banquet.specs.Answer.{Answer, accepted, in_order}
 use Rattle.banquet.specs.Key.{check_key}
 use Rattle.banquet.specs.Opening.{range_tests, opening}
 use Rattle.banquet.specs.Sets.{scheme_of}
@@ -13,14 +10,14 @@ use Rattle.banquet.proofs.Refusals.{passed_at}
 use Rattle.verdict.specs.Tests.{made_refused, passes}
 use Rattle.open_execution.proofs.open_execution.Goals as goal
 
-pub returns-in_default : goal.returns-in_default
+pub returns-in_err-open : goal.returns-in_err-open
 unfolding open_answer
-returns-in_default c =
+returns-in_err-open c =
     let a = c.args in
     made_refused
     (open_tests a.shape (length a.key.now) (length a.public.now) (length a.salt.now) (length a.root.now) (length a.first.now)
     (length a.out.now) (length a.work.now))
-    refl c.open-refusal.ensures (opened c.in_default.in_default-own.keys2) (in_order (range_tests a.shape a.e a.hidden a.second) (check_key (scheme_of a.shape) a.public.now a.key.now Accepted))
+    refl c.open.ensures c.in_err-open.was c.from_residual.ensures.1 (in_order (range_tests a.shape a.e a.hidden a.second) (check_key (scheme_of a.shape) a.public.now a.key.now accepted))
     (opening (scheme_of a.shape) a.key.now a.public.now a.salt.now a.root.now a.first.now a.e a.second a.hidden) a.out.now a.work.now
 
 pub open_key-requires : goal.open_key-requires
@@ -30,7 +27,7 @@ open_key-requires c =
     passes
     (open_tests a.shape (length a.key.now) (length a.public.now) (length a.salt.now) (length a.root.now) (length a.first.now)
     (length a.out.now) (length a.work.now))
-    refl c.open-refusal.ensures c.in-Accepted.is in (
+    refl c.open.ensures c.in_ok-open.was in (
       record {
         valid = c.requires.0;
         key_size = eqb-true _ _ (right 0);
@@ -55,4 +52,4 @@ returns c =
     ∙ ap
     (λ (x : Answer).
     made_after x (opening (scheme_of a.shape) a.key.now a.public.now a.salt.now a.root.now a.first.now a.e a.second a.hidden) a.out.now a.work.now)
-    (sym (passed_at tests (in_order (range_tests a.shape a.e a.hidden a.second) (check_key (scheme_of a.shape) a.public.now a.key.now Accepted)) (passes tests refl c.open-refusal.ensures c.in-Accepted.is)))
+    (sym (passed_at tests (in_order (range_tests a.shape a.e a.hidden a.second) (check_key (scheme_of a.shape) a.public.now a.key.now accepted)) (passes tests refl c.open.ensures c.in_ok-open.was)))
