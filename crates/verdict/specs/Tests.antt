@@ -1,6 +1,6 @@
 -- A call that begins with a list of tests, as code goes through it: it asks for their answer, returns it with `?` where it refuses, and else goes on.
 -- Assumes nothing.
-use Rattle.std.specs.Prelude.{◌≡◌, ◌≢◌, Ok, Err, IsErrAnd, true, false, List, ℕ}
+use Rattle.std.specs.Prelude.{◌≡◌, ◌≢◌, refl, Ok, Err, IsErrAnd, true, false, List, ℕ}
 use Rattle.std.proofs.Common.{sym, ap, ◌∙◌}
 use Rattle.banquet.specs.declared.Refusal.{Refusal}
 use Rattle.banquet.specs.Answer.{Answer, accepted, verdict_of, Test, in_order, clears}
@@ -13,12 +13,19 @@ pub returned : {refusal : Refusal} (r : Answer) → IsErrAnd r (λ e. e ≡ refu
 returned (Ok _) h = absurd h
 returned (Err e) h = ap Err h
 
+-- a refusal is no acceptance
+pub refuses : {a : Answer} {refusal : Refusal} → a ≡ Err refusal → a ≢ accepted
+refuses {refusal = refusal} h e = refused refusal (sym h ∙ e)
+
+pub accepted_is_none : {refusal : Refusal} → accepted ≢ Err refusal
+accepted_is_none h = refuses h refl
+
 module _ (tests : List Test) (quiet : leave tests ≡ true) {a : Answer} (is : a ≡ in_order tests accepted) where
   -- ---- the tests refuse: the call's answer is theirs, and every slice is untouched
 
   module _ {refusal : Refusal} (h : a ≡ Err refusal) where
     not_accepted : in_order tests accepted ≢ accepted
-    not_accepted e = refused refusal (sym h ∙ is ∙ e)
+    not_accepted e = refuses h (is ∙ e)
 
     answer_is : (rest : Answer) → Err refusal ≡ in_order tests rest
     answer_is rest = sym h ∙ is ∙ sym (refused_by tests rest not_accepted)
