@@ -11,17 +11,17 @@ ghost use Rattle.banquet.specs.Sets.{scheme_of};
 ghost use Rattle.banquet.specs.Answer.{accepted, in_order};
 ghost use Rattle.banquet.specs.Signature.{signature_h1, signature_h3};
 ghost use Rattle.banquet.specs.Calls.{checked, verify};
-ghost use Rattle.sets.specs.Valid.{Valid};
 ghost use Rattle.sets.specs.Bounds.{row_sizes};
 ghost use Rattle.scratch.specs.Scratch.{Scratch};
 ghost use Rattle.check_signature.specs.Steps.{Files, Drawn, h2_of, first_part, third_part, hashes_answer, signature_answer};
 
-use banquet::{Answer, Refusal, Shape};
+use banquet::{Answer, Refusal};
 use frame_hashes::Hashes;
+use sets::ParameterSet;
 
 // The parts of h1 and h3 of all executions, in one pass over the frames.
 fn absorb_executions(
-    shape: Shape,
+    set: ParameterSet,
     public: &[u8],
     s: &[u8],
     firsts: &[u8],
@@ -31,26 +31,26 @@ fn absorb_executions(
     commitments: &mut [u8],
     rows: &mut [u8],
 ) -> Hashes
-    requires { Files shape public.now s.now × Drawn shape s.now firsts.now seconds.now thirds.now
-        × (length commitments.old ≡ shape.parties * 32) × (length rows.old ≡ shape.parties * total (row_sizes shape)) }
-    ensures first_value { result.first ≡ absorbed start.first (rows_of (first_part shape s.now public.now) shape.executions) }
-    ensures third_value { result.third ≡ absorbed start.third (rows_of (third_part shape s.now public.now) shape.executions) }
+    requires { Files set.shape public.now s.now × Drawn set.shape s.now firsts.now seconds.now thirds.now
+        × (length commitments.old ≡ set.shape.parties * 32) × (length rows.old ≡ set.shape.parties * total (row_sizes set.shape)) }
+    ensures first_value { result.first ≡ absorbed start.first (rows_of (first_part set.shape s.now public.now) set.shape.executions) }
+    ensures third_value { result.third ≡ absorbed start.third (rows_of (third_part set.shape s.now public.now) set.shape.executions) }
 {
-    let n = shape.m1 * shape.wide;
-    let count = shape.executions;
+    let n = set.shape.m1 * set.shape.wide;
+    let count = set.shape.executions;
     let mut t = start;
     for e in 0..count {
         let a = e * n;
         let b = a + n;
         let u = frame_hashes::absorb_frame(
-            shape,
+            set,
             public,
             heads::salt(s),
             e as u8,
-            challenges::hidden(shape, thirds, e),
+            challenges::hidden(set, thirds, e),
             &firsts[a..b],
-            challenges::second(shape, seconds, e),
-            frames::frame(shape, s, e),
+            challenges::second(set, seconds, e),
+            frames::frame(set, s, e),
             t,
             commitments,
             rows,
@@ -62,7 +62,7 @@ fn absorb_executions(
 
 // The same, the challenges being drawn.
 fn recomputed(
-    shape: Shape,
+    set: ParameterSet,
     public: &[u8],
     s: &[u8],
     h2: &[u8],
@@ -70,14 +70,14 @@ fn recomputed(
     commitments: &mut [u8],
     rows: &mut [u8],
 ) -> Hashes
-    requires { Files shape public.now s.now × (h2.now ≡ h2_of shape s.now) × (length commitments.old ≡ shape.parties * 32)
-        × (length rows.old ≡ shape.parties * total (row_sizes shape)) }
-    ensures first_value { result.first ≡ absorbed start.first (rows_of (first_part shape s.now public.now) shape.executions) }
-    ensures third_value { result.third ≡ absorbed start.third (rows_of (third_part shape s.now public.now) shape.executions) }
+    requires { Files set.shape public.now s.now × (h2.now ≡ h2_of set.shape s.now) × (length commitments.old ≡ set.shape.parties * 32)
+        × (length rows.old ≡ set.shape.parties * total (row_sizes set.shape)) }
+    ensures first_value { result.first ≡ absorbed start.first (rows_of (first_part set.shape s.now public.now) set.shape.executions) }
+    ensures third_value { result.third ≡ absorbed start.third (rows_of (third_part set.shape s.now public.now) set.shape.executions) }
 {
-    let n = shape.executions;
-    let f = n * (shape.m1 * shape.wide);
-    let w = n * shape.wide;
+    let n = set.shape.executions;
+    let f = n * (set.shape.m1 * set.shape.wide);
+    let w = n * set.shape.wide;
     let p = n * 4;
     let mut firsts = [0u8; 2460];
     let mut seconds = [0u8; 246];
@@ -86,7 +86,7 @@ fn recomputed(
     hash_inputs::draw(7, h2, &mut seconds[0..w]);
     hash_inputs::draw(8, heads::h3(s), &mut thirds[0..p]);
     absorb_executions(
-        shape,
+        set,
         public,
         s,
         &firsts,
@@ -120,7 +120,7 @@ fn compare_hashes(s: &[u8], t: Hashes) -> Answer
 
 // Numbers 16 and 17, where h2 is the signature's own.
 fn check_hashes(
-    shape: Shape,
+    set: ParameterSet,
     public: &[u8],
     message: &[u8],
     s: &[u8],
@@ -128,33 +128,39 @@ fn check_hashes(
     commitments: &mut [u8],
     rows: &mut [u8],
 ) -> Answer
-    requires { Files shape public.now s.now × (h2.now ≡ h2_of shape s.now) × (length commitments.old ≡ shape.parties * 32)
-        × (length rows.old ≡ shape.parties * total (row_sizes shape)) }
-    ensures { result ≡ hashes_answer shape public.now message.now s.now }
+    requires { Files set.shape public.now s.now × (h2.now ≡ h2_of set.shape s.now) × (length commitments.old ≡ set.shape.parties * 32)
+        × (length rows.old ≡ set.shape.parties * total (row_sizes set.shape)) }
+    ensures { result ≡ hashes_answer set.shape public.now message.now s.now }
 {
     let start = Hashes {
         first: hash_inputs::first_input(public, message, heads::salt(s)),
         third: hash_inputs::tagged(3, h2),
     };
-    let t = recomputed(shape, public, s, h2, start, commitments, rows);
+    let t = recomputed(set, public, s, h2, start, commitments, rows);
     compare_hashes(s, t)
 }
 
 // Numbers 15, 16 and 17.
-fn check_products(shape: Shape, public: &[u8], message: &[u8], s: &[u8], work: &mut [u8]) -> Answer
-    requires { Files shape public.now s.now × (work_length ≤ length work.old) }
-    ensures value { result ≡ signature_answer shape public.now message.now s.now }
+fn check_products(
+    set: ParameterSet,
+    public: &[u8],
+    message: &[u8],
+    s: &[u8],
+    work: &mut [u8],
+) -> Answer
+    requires { Files set.shape public.now s.now × (work_length ≤ length work.old) }
+    ensures value { result ≡ signature_answer set.shape public.now message.now s.now }
     ensures scratch { Scratch work.old work.new }
 {
-    if let Some(e) = frame_products::first_product(shape, s) {
+    if let Some(e) = frame_products::first_product(set, s) {
         return Err(Refusal::ProductDiffers(e as u8));
     }
-    let h2 = second_hash::second_hash(shape, s);
+    let h2 = second_hash::second_hash(set, s);
     let mut commitments = [0u8; 4096];
-    let c = shape.parties * 32;
-    let r = shape.parties * sets::row_length(shape);
+    let c = set.shape.parties * 32;
+    let r = set.shape.parties * sets::row_length(set);
     check_hashes(
-        shape,
+        set,
         public,
         message,
         s,
@@ -165,13 +171,12 @@ fn check_products(shape: Shape, public: &[u8], message: &[u8], s: &[u8], work: &
 }
 
 // The call, which refuses by lengths first.
-pub fn check(shape: Shape, public: &[u8], message: &[u8], s: &[u8], work: &mut [u8]) -> Answer
-    requires { Valid shape }
+pub fn check(set: ParameterSet, public: &[u8], message: &[u8], s: &[u8], work: &mut [u8]) -> Answer
     ensures { checked result work.new
-        ≡ verify (scheme_of shape) public.now message.now s.now work.old }
+        ≡ verify (scheme_of set.shape) public.now message.now s.now work.old }
 {
-    lengths::verify(shape, public.len(), message.len(), s.len(), work.len())?;
-    let answer = check_products(shape, public, message, s, work);
+    lengths::verify(set, public.len(), message.len(), s.len(), work.len())?;
+    let answer = check_products(set, public, message, s, work);
     scratch::clear(work);
     answer
 }

@@ -7,10 +7,9 @@ ghost use Rattle.poly.specs.Index.{at};
 ghost use Rattle.banquet.specs.Shape.{sboxes, tape_sizes};
 ghost use Rattle.banquet.specs.Sets.{scheme_of};
 ghost use Rattle.banquet.specs.Execution.{inverse_shares, input_shares, output_share};
-ghost use Rattle.sets.specs.Valid.{Valid};
 ghost use Rattle.forms.specs.Party.{committed, own as own_share};
 
-use banquet::Shape;
+use sets::ParameterSet;
 
 // A party's own share: "Party 0 alone adds offsets".
 pub fn own(i: usize, share: &[u8], offset: &[u8], out: &mut [u8])
@@ -33,7 +32,7 @@ fn one(i: usize) -> u8
 
 // The output's share, and the shares of the inverses and of the S-boxes' inputs.
 pub fn walk(
-    shape: Shape,
+    set: ParameterSet,
     i: usize,
     front: &[u8],
     key: &[u8],
@@ -42,17 +41,17 @@ pub fn walk(
     inverses: &mut [u8],
     inputs: &mut [u8],
 ) -> [u8; 16]
-    requires { Valid shape × (length front.now ≡ shape.front) × (length key.now ≡ 16) × (length inverse.now ≡ sboxes shape)
-        × (length tape.now ≡ total (tape_sizes shape)) × (length inverses.old ≡ sboxes shape) × (length inputs.old ≡ sboxes shape) }
+    requires { (length front.now ≡ set.shape.front) × (length key.now ≡ 16) × (length inverse.now ≡ sboxes set.shape)
+        × (length tape.now ≡ total (tape_sizes set.shape)) × (length inverses.old ≡ sboxes set.shape) × (length inputs.old ≡ sboxes set.shape) }
     ensures value { result
-        ≡ output_share (scheme_of shape) (committed front.now key.now inverse.now) i tape.now }
+        ≡ output_share (scheme_of set.shape) (committed front.now key.now inverse.now) i tape.now }
     ensures inverses_after { inverses.new
-        ≡ inverse_shares (scheme_of shape) (committed front.now key.now inverse.now) i tape.now }
+        ≡ inverse_shares (scheme_of set.shape) (committed front.now key.now inverse.now) i tape.now }
     ensures inputs_after { inputs.new
-        ≡ input_shares (scheme_of shape) (committed front.now key.now inverse.now) i tape.now }
+        ≡ input_shares (scheme_of set.shape) (committed front.now key.now inverse.now) i tape.now }
 {
     let mut share = [0u8; 16];
-    own(i, tapes::tape_part(shape, 0, tape), key, &mut share);
-    own(i, tapes::tape_part(shape, 1, tape), inverse, inverses);
+    own(i, tapes::tape_part(set, 0, tape), key, &mut share);
+    own(i, tapes::tape_part(set, 1, tape), inverse, inverses);
     shares::aes_circuit(one(i), &share, front, inverses, inputs)
 }

@@ -11,67 +11,59 @@ ghost use Rattle.banquet.specs.Sets.{scheme_of};
 ghost use Rattle.banquet.specs.Hash.{commitment};
 ghost use Rattle.banquet.specs.Execution.{output_share};
 ghost use Rattle.banquet.specs.Signer.{seed_of, tape_of};
-ghost use Rattle.sets.specs.Valid.{Valid};
 ghost use Rattle.forms.specs.Party.{committed};
 ghost use Rattle.signing.specs.Steps.{offsets_at, witness_length, own_row, own_part};
 
-use banquet::Shape;
+use sets::ParameterSet;
 use stream::Sponge;
 
 // Draws the parties' tapes, and absorbs the parties' commitments.
 fn draw_parties(
-    shape: Shape,
+    set: ParameterSet,
     salt: &[u8],
     e: u8,
     root: &[u8],
     tapes: &mut [u8],
     s: Sponge,
 ) -> Sponge
-    requires { Valid shape × (length salt.now ≡ 32) × (length root.now ≡ 16)
-        × (length tapes.old ≡ shape.parties * total (tape_sizes shape)) }
-    ensures tapes_after { tapes.new ≡ rows (tape_of (scheme_of shape) salt.now root.now e) shape.parties }
+    requires { (length salt.now ≡ 32) × (length root.now ≡ 16)
+        × (length tapes.old ≡ set.shape.parties * total (tape_sizes set.shape)) }
+    ensures tapes_after { tapes.new ≡ rows (tape_of (scheme_of set.shape) salt.now root.now e) set.shape.parties }
     ensures value { result
-        ≡ absorbed s (rows (λ i. commitment (scheme_of shape) salt.now e i
-        (seed_of (scheme_of shape) salt.now root.now e i)) shape.parties) }
+        ≡ absorbed s (rows (λ i. commitment (scheme_of set.shape) salt.now e i
+        (seed_of (scheme_of set.shape) salt.now root.now e i)) set.shape.parties) }
 {
-    let seeds = leaf_seeds::leaf_seeds(shape, salt, e, root);
-    let c = shape.parties * 32;
-    let size = sets::tape_length(shape);
+    let seeds = leaf_seeds::leaf_seeds(set, salt, e, root);
+    let c = set.shape.parties * 32;
+    let size = sets::tape_length(set);
     let mut room = [0u8; 4096];
     let commitments = &mut room[0..c];
-    party::hash_rows(0, salt, e, shape.parties, 32, &seeds, commitments);
-    party::hash_rows(4, salt, e, shape.parties, size, &seeds, tapes);
+    party::hash_rows(0, salt, e, set.shape.parties, 32, &seeds, commitments);
+    party::hash_rows(4, salt, e, set.shape.parties, size, &seeds, tapes);
     absorb::absorb(s, commitments)
 }
 
 // Absorbs the parties' output shares, and then the offsets of key and inverses.
-fn absorb_shares(shape: Shape, front: &[u8], offsets: &[u8], tapes: &[u8], s: Sponge) -> Sponge
-    requires { Valid shape × (length front.now ≡ shape.front) × (length offsets.now ≡ witness_length shape)
-        × (length tapes.now ≡ shape.parties * total (tape_sizes shape)) }
+fn absorb_shares(set: ParameterSet, front: &[u8], offsets: &[u8], tapes: &[u8], s: Sponge) -> Sponge
+    requires { (length front.now ≡ set.shape.front) × (length offsets.now ≡ witness_length set.shape)
+        × (length tapes.now ≡ set.shape.parties * total (tape_sizes set.shape)) }
     ensures { result
-        ≡ absorbed (absorbed s (rows (λ i. output_share (scheme_of shape)
-        (committed front.now (take 16 offsets.now) (part 16 (sboxes shape) offsets.now)) i
-        (row (total (tape_sizes shape)) i tapes.now)) shape.parties)) offsets.now }
+        ≡ absorbed (absorbed s (rows (λ i. output_share (scheme_of set.shape)
+        (committed front.now (take 16 offsets.now) (part 16 (sboxes set.shape) offsets.now)) i
+        (row (total (tape_sizes set.shape)) i tapes.now)) set.shape.parties)) offsets.now }
 {
-    let o = shape.parties * 16;
+    let o = set.shape.parties * 16;
     let n = offsets.len();
     let mut room = [0u8; 2048];
     let outputs = &mut room[0..o];
-    output_shares::output_shares(
-        shape,
-        front,
-        &offsets[0..16],
-        &offsets[16..n],
-        tapes,
-        outputs,
-    );
+    output_shares::output_shares(set, front, &offsets[0..16], &offsets[16..n], tapes, outputs);
     let b = absorb::absorb(s, outputs);
     absorb::absorb(b, offsets)
 }
 
 // One execution's: "An offset is the true value plus the sum of tape shares." The tapes are scratch.
 fn commit_frame(
-    shape: Shape,
+    set: ParameterSet,
     salt: &[u8],
     e: u8,
     root: &[u8],
@@ -81,26 +73,26 @@ fn commit_frame(
     tapes: &mut [u8],
     s: Sponge,
 ) -> Sponge
-    requires { Valid shape × (length salt.now ≡ 32) × (length root.now ≡ 16) × (length front.now ≡ shape.front)
-        × (length witness.now ≡ witness_length shape) × (length frame.old ≡ total (frame_sizes shape)) × (length tapes.old ≡ shape.parties * total (tape_sizes shape)) }
+    requires { (length salt.now ≡ 32) × (length root.now ≡ 16) × (length front.now ≡ set.shape.front)
+        × (length witness.now ≡ witness_length set.shape) × (length frame.old ≡ total (frame_sizes set.shape)) × (length tapes.old ≡ set.shape.parties * total (tape_sizes set.shape)) }
     ensures frame_after { frame.new
-        ≡ put frame.old (offsets_at shape) (own_row shape witness.now salt.now root.now e) }
-    ensures value { result ≡ absorbed s (own_part shape front.now witness.now salt.now root.now e) }
+        ≡ put frame.old (offsets_at set.shape) (own_row set.shape witness.now salt.now root.now e) }
+    ensures value { result ≡ absorbed s (own_part set.shape front.now witness.now salt.now root.now e) }
 {
-    let t = draw_parties(shape, salt, e, root, tapes, s);
-    let size = sets::tape_length(shape);
-    let k = frames::offset(shape, 2);
+    let t = draw_parties(set, salt, e, root, tapes, s);
+    let size = sets::tape_length(set);
+    let k = frames::offset(set, 2);
     let a = k + witness.len();
     let b = k + size;
-    row_sums::sum_rows(shape.parties, tapes, &mut frame[k..b]);
+    row_sums::sum_rows(set.shape.parties, tapes, &mut frame[k..b]);
     let offsets = &mut frame[k..a];
     xor::xor_into(offsets, witness);
-    absorb_shares(shape, front, offsets, tapes, t)
+    absorb_shares(set, front, offsets, tapes, t)
 }
 
 // Those of all executions. `roots` has their root seeds, `witness` the key and the inverses of the S-boxes' inputs.
 pub fn commit_frames(
-    shape: Shape,
+    set: ParameterSet,
     salt: &[u8],
     roots: &[u8],
     front: &[u8],
@@ -109,18 +101,18 @@ pub fn commit_frames(
     tapes: &mut [u8],
     start: Sponge,
 ) -> Sponge
-    requires { Valid shape × (length salt.now ≡ 32) × (length roots.now ≡ shape.executions * 16) × (length front.now ≡ shape.front)
-        × (length witness.now ≡ witness_length shape) × (length frames.old ≡ shape.executions * total (frame_sizes shape))
-        × (length tapes.old ≡ shape.parties * total (tape_sizes shape)) }
+    requires { (length salt.now ≡ 32) × (length roots.now ≡ set.shape.executions * 16) × (length front.now ≡ set.shape.front)
+        × (length witness.now ≡ witness_length set.shape) × (length frames.old ≡ set.shape.executions * total (frame_sizes set.shape))
+        × (length tapes.old ≡ set.shape.parties * total (tape_sizes set.shape)) }
     ensures frames_after { frames.new
-        ≡ rows (λ e. put (row (total (frame_sizes shape)) e frames.old) (offsets_at shape)
-        (own_row shape witness.now salt.now (row 16 e roots.now) e)) shape.executions }
+        ≡ rows (λ e. put (row (total (frame_sizes set.shape)) e frames.old) (offsets_at set.shape)
+        (own_row set.shape witness.now salt.now (row 16 e roots.now) e)) set.shape.executions }
     ensures value { result
-        ≡ absorbed start (rows (λ e. own_part shape front.now witness.now salt.now (row 16 e roots.now) e)
-        shape.executions) }
+        ≡ absorbed start (rows (λ e. own_part set.shape front.now witness.now salt.now (row 16 e roots.now) e)
+        set.shape.executions) }
 {
-    let len = frames::frame_length(shape);
-    let n = shape.executions;
+    let len = frames::frame_length(set);
+    let n = set.shape.executions;
     let mut t = start;
     for e in 0..n {
         let r = e * 16;
@@ -128,7 +120,7 @@ pub fn commit_frames(
         let a = e * len;
         let b = a + len;
         let u = commit_frame(
-            shape,
+            set,
             salt,
             e as u8,
             &roots[r..q],

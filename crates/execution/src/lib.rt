@@ -8,16 +8,15 @@ ghost use Rattle.banquet.specs.Shape.{sboxes, product_points, first_challenge_le
 ghost use Rattle.banquet.specs.Sets.{scheme_of};
 ghost use Rattle.banquet.specs.Hash.{tape as tape_of};
 ghost use Rattle.banquet.specs.Execution.{challenge};
-ghost use Rattle.sets.specs.Valid.{Valid};
 ghost use Rattle.sets.specs.Bounds.{row_sizes};
 ghost use Rattle.forms.specs.Party.{committed, worked_row, share_row};
 ghost use Rattle.party_shares.specs.Given.{Lengths};
 
-use banquet::Shape;
+use sets::ParameterSet;
 
 // The rows of all parties: each draws its tape from its seed.
 fn seed_rows(
-    shape: Shape,
+    set: ParameterSet,
     salt: &[u8],
     e: u8,
     seeds: &[u8],
@@ -32,19 +31,19 @@ fn seed_rows(
     last: u64,
     out: &mut [u8],
 )
-    requires { Lengths shape front.now key.now inverse.now product.now first.now far.now tables.now
-        × (length salt.now ≡ 32) × (shape.parties * 16 ≤ length seeds.now)
-        × (length out.old ≡ shape.parties * total (row_sizes shape)) }
+    requires { Lengths set.shape front.now key.now inverse.now product.now first.now far.now tables.now
+        × (length salt.now ≡ 32) × (set.shape.parties * 16 ≤ length seeds.now)
+        × (length out.old ≡ set.shape.parties * total (row_sizes set.shape)) }
     ensures { out.new
-        ≡ rows (λ i. worked_row shape (committed front.now key.now inverse.now)
+        ≡ rows (λ i. worked_row set.shape (committed front.now key.now inverse.now)
         product.now first.now far.now given tables.now last i
-        (tape_of (scheme_of shape) salt.now e i (row 16 i seeds.now))) shape.parties }
+        (tape_of (scheme_of set.shape) salt.now e i (row 16 i seeds.now))) set.shape.parties }
 {
-    let size = sets::tape_length(shape);
-    let len = sets::row_length(shape);
+    let size = sets::tape_length(set);
+    let len = sets::row_length(set);
     let mut room = [0u8; 462];
     let tape = &mut room[0..size];
-    let n = shape.parties;
+    let n = set.shape.parties;
     for i in 0..n {
         let s = i * 16;
         let t = s + 16;
@@ -52,7 +51,7 @@ fn seed_rows(
         let a = i * len;
         let b = a + len;
         party_shares::party_row(
-            shape,
+            set,
             i,
             front,
             key,
@@ -71,7 +70,7 @@ fn seed_rows(
 
 // All parties' shares under the challenge, a row for each. `key`, `inverse` and `product` are the offsets.
 pub fn share_rows(
-    shape: Shape,
+    set: ParameterSet,
     salt: &[u8],
     e: u8,
     seeds: &[u8],
@@ -83,32 +82,32 @@ pub fn share_rows(
     second: u64,
     out: &mut [u8],
 )
-    requires { Valid shape × (length salt.now ≡ 32) × (shape.parties * 16 ≤ length seeds.now) × (length front.now ≡ shape.front)
-        × (length key.now ≡ 16) × (length inverse.now ≡ sboxes shape) × (length first.now ≡ first_challenge_length shape)
-        × (length product.now ≡ product_points shape * shape.wide) × (second < 2 ^ (8 * shape.wide))
-        × (length out.old ≡ shape.parties * total (row_sizes shape)) }
+    requires { (length salt.now ≡ 32) × (set.shape.parties * 16 ≤ length seeds.now) × (length front.now ≡ set.shape.front)
+        × (length key.now ≡ 16) × (length inverse.now ≡ sboxes set.shape) × (length first.now ≡ first_challenge_length set.shape)
+        × (length product.now ≡ product_points set.shape * set.shape.wide) × (second < 2 ^ (8 * set.shape.wide))
+        × (length out.old ≡ set.shape.parties * total (row_sizes set.shape)) }
     ensures { out.new
-        ≡ rows (λ i. share_row (scheme_of shape) (committed front.now key.now inverse.now)
-        (challenge (scheme_of shape) first.now product.now second) i
-        (tape_of (scheme_of shape) salt.now e i (row 16 i seeds.now))) shape.parties }
+        ≡ rows (λ i. share_row (scheme_of set.shape) (committed front.now key.now inverse.now)
+        (challenge (scheme_of set.shape) first.now product.now second) i
+        (tape_of (scheme_of set.shape) salt.now e i (row 16 i seeds.now))) set.shape.parties }
 {
-    let bits = (8 * shape.wide) as u32;
+    let bits = (8 * set.shape.wide) as u32;
     let mut tables = [0u64; 640];
-    let last = points::tables(shape, second, &mut tables);
+    let last = points::tables(set, second, &mut tables);
     let mut far = [0u64; 41];
-    points::far_values(shape, second, &mut far);
-    let m = shape.m1;
+    points::far_values(set, second, &mut far);
+    let m = set.shape.m1;
     let mut drawn = [0u64; 10];
     let draws = &mut drawn[0..m];
-    elements::load(shape.wide, first, draws);
+    elements::load(set.shape.wide, first, draws);
     let given = gf::mul(
         bits,
-        shape.low,
+        set.shape.low,
         opened::sum(&far[0..20]),
         opened::sum(draws),
     );
     seed_rows(
-        shape,
+        set,
         salt,
         e,
         seeds,

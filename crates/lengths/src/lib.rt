@@ -5,22 +5,21 @@ ghost use Rattle.std.specs.Prelude.{◌≡◌};
 ghost use Rattle.banquet.specs.Answer.{accepted, in_order};
 ghost use Rattle.banquet.specs.Opening.{range_tests};
 ghost use Rattle.banquet.specs.Calls.{public_key_tests, sign_tests, verify_tests, open_tests, verify_opening_tests};
-ghost use Rattle.sets.specs.Valid.{Valid};
 
 use banquet::{Answer, Refusal, Shape};
+use sets::ParameterSet;
 
 // Make a public key.
-pub fn public_key(shape: Shape, key: usize, plaintext: usize, output: usize) -> Answer
-    requires { Valid shape }
-    ensures { result ≡ in_order (public_key_tests shape key plaintext output) accepted }
+pub fn public_key(set: ParameterSet, key: usize, plaintext: usize, output: usize) -> Answer
+    ensures { result ≡ in_order (public_key_tests set.shape key plaintext output) accepted }
 {
     if key != 16 {
         return Err(Refusal::KeyLength);
     }
-    if plaintext != shape.front {
+    if plaintext != set.shape.front {
         return Err(Refusal::PublicKeyLength);
     }
-    if output < sets::public_key_length(shape) {
+    if output < sets::public_key_length(set) {
         return Err(Refusal::FileLength);
     }
     Ok(())
@@ -28,7 +27,7 @@ pub fn public_key(shape: Shape, key: usize, plaintext: usize, output: usize) -> 
 
 // Sign.
 pub fn sign(
-    shape: Shape,
+    set: ParameterSet,
     key: usize,
     public: usize,
     message: usize,
@@ -37,13 +36,12 @@ pub fn sign(
     output: usize,
     work: usize,
 ) -> Answer
-    requires { Valid shape }
-    ensures { result ≡ in_order (sign_tests shape key public message salt seeds output work) accepted }
+    ensures { result ≡ in_order (sign_tests set.shape key public message salt seeds output work) accepted }
 {
     if key != 16 {
         return Err(Refusal::KeyLength);
     }
-    if public != sets::public_key_length(shape) {
+    if public != sets::public_key_length(set) {
         return Err(Refusal::PublicKeyLength);
     }
     if banquet::MESSAGE_LIMIT < message {
@@ -52,10 +50,10 @@ pub fn sign(
     if salt != 32 {
         return Err(Refusal::SaltLength);
     }
-    if seeds != shape.executions * 16 {
+    if seeds != set.shape.executions * 16 {
         return Err(Refusal::SeedLength);
     }
-    if output < frames::signature_length(shape) {
+    if output < frames::signature_length(set) {
         return Err(Refusal::FileLength);
     }
     if work < banquet::WORK_LENGTH {
@@ -65,17 +63,22 @@ pub fn sign(
 }
 
 // Check a signature.
-pub fn verify(shape: Shape, public: usize, message: usize, signature: usize, work: usize) -> Answer
-    requires { Valid shape }
-    ensures { result ≡ in_order (verify_tests shape public message signature work) accepted }
+pub fn verify(
+    set: ParameterSet,
+    public: usize,
+    message: usize,
+    signature: usize,
+    work: usize,
+) -> Answer
+    ensures { result ≡ in_order (verify_tests set.shape public message signature work) accepted }
 {
-    if public != sets::public_key_length(shape) {
+    if public != sets::public_key_length(set) {
         return Err(Refusal::PublicKeyLength);
     }
     if banquet::MESSAGE_LIMIT < message {
         return Err(Refusal::MessageLength);
     }
-    if signature != frames::signature_length(shape) {
+    if signature != frames::signature_length(set) {
         return Err(Refusal::FileLength);
     }
     if work < banquet::WORK_LENGTH {
@@ -86,7 +89,7 @@ pub fn verify(shape: Shape, public: usize, message: usize, signature: usize, wor
 
 // Open an execution.
 pub fn open(
-    shape: Shape,
+    set: ParameterSet,
     key: usize,
     public: usize,
     salt: usize,
@@ -95,25 +98,24 @@ pub fn open(
     output: usize,
     work: usize,
 ) -> Answer
-    requires { Valid shape }
-    ensures { result ≡ in_order (open_tests shape key public salt root first output work) accepted }
+    ensures { result ≡ in_order (open_tests set.shape key public salt root first output work) accepted }
 {
     if key != 16 {
         return Err(Refusal::KeyLength);
     }
-    if public != sets::public_key_length(shape) {
+    if public != sets::public_key_length(set) {
         return Err(Refusal::PublicKeyLength);
     }
     if salt != 32 {
         return Err(Refusal::SaltLength);
     }
-    if first != shape.m1 * shape.wide {
+    if first != set.shape.m1 * set.shape.wide {
         return Err(Refusal::SaltLength);
     }
     if root != 16 {
         return Err(Refusal::SeedLength);
     }
-    if output < opening_sizes::opening_length(shape) {
+    if output < opening_sizes::opening_length(set) {
         return Err(Refusal::FileLength);
     }
     if work < banquet::WORK_LENGTH {
@@ -123,14 +125,13 @@ pub fn open(
 }
 
 // Check an opening.
-pub fn verify_opening(shape: Shape, public: usize, opening: usize, work: usize) -> Answer
-    requires { Valid shape }
-    ensures { result ≡ in_order (verify_opening_tests shape public opening work) accepted }
+pub fn verify_opening(set: ParameterSet, public: usize, opening: usize, work: usize) -> Answer
+    ensures { result ≡ in_order (verify_opening_tests set.shape public opening work) accepted }
 {
-    if public != sets::public_key_length(shape) {
+    if public != sets::public_key_length(set) {
         return Err(Refusal::PublicKeyLength);
     }
-    if opening != opening_sizes::opening_length(shape) {
+    if opening != opening_sizes::opening_length(set) {
         return Err(Refusal::FileLength);
     }
     if work < banquet::WORK_LENGTH {

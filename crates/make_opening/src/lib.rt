@@ -13,11 +13,11 @@ ghost use Rattle.sets.specs.Bounds.{row_sizes};
 ghost use Rattle.scratch.specs.Scratch.{Scratch};
 ghost use Rattle.make_opening.specs.Steps.{Lengths, Ranges, Inverted, AtPoints};
 
-use banquet::Shape;
+use sets::ParameterSet;
 
 // The opening into out, from the parties' seeds, the inverses and the rows at the points 20 to 40. The rows of shares are scratch.
 fn make_shares(
-    shape: Shape,
+    set: ParameterSet,
     key: &[u8],
     public: &[u8],
     salt: &[u8],
@@ -35,20 +35,20 @@ fn make_shares(
     rows: &mut [u8],
     out: &mut [u8],
 )
-    requires { Lengths shape key.now public.now salt.now root.now first.now
-        × Ranges shape e second hidden × AtPoints shape key.now public.now inverses.now us.now vs.now lasts.now
-        × (seeds.now ≡ node_seeds (leaves shake128 salt.now e shape.depth 0 root.now))
-        × (length products.old ≡ product_points shape * shape.wide) × (length rows.old ≡ shape.parties * total (row_sizes shape))
-        × (length out.old ≡ opening_length shape) }
+    requires { Lengths set.shape key.now public.now salt.now root.now first.now
+        × Ranges set.shape e second hidden × AtPoints set.shape key.now public.now inverses.now us.now vs.now lasts.now
+        × (seeds.now ≡ node_seeds (leaves shake128 salt.now e set.shape.depth 0 root.now))
+        × (length products.old ≡ product_points set.shape * set.shape.wide) × (length rows.old ≡ set.shape.parties * total (row_sizes set.shape))
+        × (length out.old ≡ opening_length set.shape) }
     ensures { out.new
-        ≡ opening (scheme_of shape) key.now public.now salt.now root.now first.now e second hidden }
+        ≡ opening (scheme_of set.shape) key.now public.now salt.now root.now first.now e second hidden }
 {
     let n = inverses.len();
     let mut key_bytes = [0u8; 16];
     let mut inverse_room = [0u8; 200];
     let inverse_bytes = &mut inverse_room[0..n];
     signer::offsets(
-        shape,
+        set,
         salt,
         e,
         seeds,
@@ -66,11 +66,11 @@ fn make_shares(
     let inverse_offsets: &[u8] = inverse_bytes;
     let product_offsets: &[u8] = products;
     execution::share_rows(
-        shape,
+        set,
         salt,
         e,
         seeds,
-        sets::front(shape, public),
+        sets::front(set.shape, public),
         key_offset,
         inverse_offsets,
         first,
@@ -79,7 +79,7 @@ fn make_shares(
         rows,
     );
     write_opening::write(
-        shape,
+        set,
         salt,
         e,
         root,
@@ -97,7 +97,7 @@ fn make_shares(
 
 // The opening into the front of out; the work slice's front is scratch.
 pub fn make(
-    shape: Shape,
+    set: ParameterSet,
     key: &[u8],
     public: &[u8],
     salt: &[u8],
@@ -111,31 +111,31 @@ pub fn make(
     out: &mut [u8],
     work: &mut [u8],
 )
-    requires { Lengths shape key.now public.now salt.now root.now first.now
-        × Ranges shape e second hidden × Inverted shape key.now public.now inputs.now inverses.now
-        × (opening_length shape ≤ length out.old) × (work_length ≤ length work.old) }
+    requires { Lengths set.shape key.now public.now salt.now root.now first.now
+        × Ranges set.shape e second hidden × Inverted set.shape key.now public.now inputs.now inverses.now
+        × (opening_length set.shape ≤ length out.old) × (work_length ≤ length work.old) }
     ensures out_after { out.new
-        ≡ output_after accepted (opening (scheme_of shape) key.now public.now salt.now root.now
+        ≡ output_after accepted (opening (scheme_of set.shape) key.now public.now salt.now root.now
         first.now e second hidden) out.old }
     ensures scratch { Scratch work.old work.new }
 {
     let mut room = [0u8; 2048];
-    let leaves = sets::leaf_bytes(shape);
+    let leaves = sets::leaf_bytes(set);
     let seeds = &mut room[0..leaves];
-    tree::expand(shape.depth, salt, e, 0, root, seeds);
-    let n = 21 * shape.m1;
+    tree::expand(set.shape.depth, salt, e, 0, root, seeds);
+    let n = 21 * set.shape.m1;
     let mut input_rows = [0u64; 210];
     let mut inverse_rows = [0u64; 210];
     let mut lasts = [0u64; 21];
     let us = &mut input_rows[0..n];
     let vs = &mut inverse_rows[0..n];
-    true_rows::true_rows(shape, inputs, inverses, us, vs, &mut lasts);
+    true_rows::true_rows(set, inputs, inverses, us, vs, &mut lasts);
     let mut products = [0u8; 126];
-    let end = 21 * shape.wide;
-    let rows = shape.parties * sets::row_length(shape);
-    let size = opening_sizes::opening_length(shape);
+    let end = 21 * set.shape.wide;
+    let rows = set.shape.parties * sets::row_length(set);
+    let size = opening_sizes::opening_length(set);
     make_shares(
-        shape,
+        set,
         key,
         public,
         salt,

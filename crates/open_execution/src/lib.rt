@@ -8,14 +8,14 @@ ghost use Rattle.banquet.specs.Answer.{accepted, in_order};
 ghost use Rattle.banquet.specs.Key.{check_key};
 ghost use Rattle.banquet.specs.Opening.{range_tests, opening};
 ghost use Rattle.banquet.specs.Calls.{made, made_after, open_execution};
-ghost use Rattle.sets.specs.Valid.{Valid};
 ghost use Rattle.make_opening.specs.Steps.{Lengths};
 
-use banquet::{Answer, Shape};
+use banquet::Answer;
+use sets::ParameterSet;
 
 // Numbers 8 to 12, and else the opening.
 fn open_key(
-    shape: Shape,
+    set: ParameterSet,
     key: &[u8],
     public: &[u8],
     salt: &[u8],
@@ -27,22 +27,22 @@ fn open_key(
     out: &mut [u8],
     work: &mut [u8],
 ) -> Answer
-    requires { Lengths shape key.now public.now salt.now root.now first.now
-        × (second < 2 ^ (8 * shape.wide)) × (opening_length shape ≤ length out.old) × (work_length ≤ length work.old) }
+    requires { Lengths set.shape key.now public.now salt.now root.now first.now
+        × (second < 2 ^ (8 * set.shape.wide)) × (opening_length set.shape ≤ length out.old) × (work_length ≤ length work.old) }
     ensures { made result out.new work.new
-        ≡ made_after (in_order (range_tests shape e hidden second) (check_key (scheme_of shape) public.now key.now accepted))
-        (opening (scheme_of shape) key.now public.now salt.now root.now first.now e second hidden)
+        ≡ made_after (in_order (range_tests set.shape e hidden second) (check_key (scheme_of set.shape) public.now key.now accepted))
+        (opening (scheme_of set.shape) key.now public.now salt.now root.now first.now e second hidden)
         out.old work.old }
 {
-    lengths::ranges(shape, e, hidden, second)?;
-    let n = shape.m1 * shape.m2;
+    lengths::ranges(set.shape, e, hidden, second)?;
+    let n = set.shape.m1 * set.shape.m2;
     let mut given = [0u8; 200];
     let mut inverted = [0u8; 200];
     let inputs = &mut given[0..n];
     let inverses = &mut inverted[0..n];
-    check_key::check_key(shape, key, public, inputs, inverses)?;
+    check_key::check_key(set, key, public, inputs, inverses)?;
     make_opening::make(
-        shape, key, public, salt, root, first, e as u8, second, hidden, inputs, inverses, out, work,
+        set, key, public, salt, root, first, e as u8, second, hidden, inputs, inverses, out, work,
     );
     scratch::clear(work);
     Ok(())
@@ -50,7 +50,7 @@ fn open_key(
 
 // The call, which refuses by lengths first.
 pub fn open_execution(
-    shape: Shape,
+    set: ParameterSet,
     key: &[u8],
     public: &[u8],
     salt: &[u8],
@@ -62,13 +62,13 @@ pub fn open_execution(
     out: &mut [u8],
     work: &mut [u8],
 ) -> Answer
-    requires { Valid shape × (second < 2 ^ (8 * shape.wide)) }
+    requires { second < 2 ^ (8 * set.shape.wide) }
     ensures { made result out.new work.new
-        ≡ open_execution (scheme_of shape) key.now public.now salt.now root.now first.now
+        ≡ open_execution (scheme_of set.shape) key.now public.now salt.now root.now first.now
         e second hidden out.old work.old }
 {
     lengths::open(
-        shape,
+        set,
         key.len(),
         public.len(),
         salt.len(),
@@ -78,6 +78,6 @@ pub fn open_execution(
         work.len(),
     )?;
     open_key(
-        shape, key, public, salt, root, first, e, second, hidden, out, work,
+        set, key, public, salt, root, first, e, second, hidden, out, work,
     )
 }

@@ -4,43 +4,39 @@
 ghost use Rattle.std.specs.Prelude.{◌≡◌, ◌≤◌};
 ghost use Rattle.slices.specs.Layout.{total};
 ghost use Rattle.banquet.specs.Shape.{transcript_sizes, opening_length};
-ghost use Rattle.sets.specs.Valid.{Valid};
 
-use banquet::Shape;
+use sets::ParameterSet;
 
-pub fn transcript_sizes(shape: Shape) -> [usize; 12]
-    requires { Valid shape }
-    ensures { result ≡ transcript_sizes shape }
+pub fn transcript_sizes(set: ParameterSet) -> [usize; 12]
+    ensures { result ≡ transcript_sizes set.shape }
 {
-    let row = shape.m1 * shape.wide;
+    let row = set.shape.m1 * set.shape.wide;
     [
         32,
         1,
-        shape.parties * 32,
-        shape.parties * 16,
+        set.shape.parties * 32,
+        set.shape.parties * 16,
         16,
-        shape.m1 * shape.m2,
+        set.shape.m1 * set.shape.m2,
         row,
-        (shape.m2 + 1) * shape.wide,
-        shape.wide,
-        shape.parties * shape.wide,
-        shape.parties * row,
-        shape.parties * row,
+        (set.shape.m2 + 1) * set.shape.wide,
+        set.shape.wide,
+        set.shape.parties * set.shape.wide,
+        set.shape.parties * row,
+        set.shape.parties * row,
     ]
 }
 
 // The bytes of an opening before the hidden party.
-pub fn transcript_length(shape: Shape) -> usize
-    requires { Valid shape }
-    ensures { (result ≡ total (transcript_sizes shape)) × (result ≤ 22713) }
+pub fn transcript_length(set: ParameterSet) -> usize
+    ensures { (result ≡ total (transcript_sizes set.shape)) × (result ≤ 22713) }
 {
-    fields::offset(&transcript_sizes(shape), 12)
+    fields::offset(&transcript_sizes(set), 12)
 }
 
 // The bytes of an opening.
-pub fn opening_length(shape: Shape) -> usize
-    requires { Valid shape }
-    ensures { (result ≡ opening_length shape) × (result ≤ 22826) }
+pub fn opening_length(set: ParameterSet) -> usize
+    ensures { (result ≡ opening_length set.shape) × (result ≤ 22826) }
 {
-    transcript_length(shape) + (1 + shape.depth * 16)
+    transcript_length(set) + (1 + set.shape.depth * 16)
 }

@@ -26,9 +26,9 @@ pub fn open(
         ≡ open_execution base_scheme key.now public.now salt.now root.now first.now
         e second hidden output.old work.old }
 {
-    let shape = Parties16::SHAPE;
+    let set = Parties16::SET;
     open_execution::open_execution(
-        shape,
+        set,
         key,
         public,
         salt,
@@ -47,6 +47,6 @@ pub fn verify_opening(public: &[u8], opening: &[u8], work: &mut [u8]) -> Answer
     ensures { checked result work.new
         ≡ verify_opening base_scheme public.now opening.now work.old }
 {
-    let shape = Parties16::SHAPE;
-    check_opening::check(shape, public, opening, work)
+    let set = Parties16::SET;
+    check_opening::check(set, public, opening, work)
 }

@@ -7,38 +7,37 @@ ghost use Rattle.slices.specs.Layout.{total};
 ghost use Rattle.banquet.specs.Shape.{sboxes, tape_sizes};
 ghost use Rattle.banquet.specs.Sets.{scheme_of};
 ghost use Rattle.banquet.specs.Execution.{output_share};
-ghost use Rattle.sets.specs.Valid.{Valid};
 ghost use Rattle.forms.specs.Party.{committed};
 
-use banquet::Shape;
+use sets::ParameterSet;
 
 // One after the other. `key` and `inverse` are the offsets.
 pub fn output_shares(
-    shape: Shape,
+    set: ParameterSet,
     front: &[u8],
     key: &[u8],
     inverse: &[u8],
     tapes: &[u8],
     out: &mut [u8],
 )
-    requires { Valid shape × (length front.now ≡ shape.front) × (length key.now ≡ 16) × (length inverse.now ≡ sboxes shape)
-        × (length tapes.now ≡ shape.parties * total (tape_sizes shape)) × (length out.old ≡ shape.parties * 16) }
+    requires { (length front.now ≡ set.shape.front) × (length key.now ≡ 16) × (length inverse.now ≡ sboxes set.shape)
+        × (length tapes.now ≡ set.shape.parties * total (tape_sizes set.shape)) × (length out.old ≡ set.shape.parties * 16) }
     ensures { out.new
-        ≡ rows (λ i. output_share (scheme_of shape) (committed front.now key.now inverse.now) i
-        (row (total (tape_sizes shape)) i tapes.now)) shape.parties }
+        ≡ rows (λ i. output_share (scheme_of set.shape) (committed front.now key.now inverse.now) i
+        (row (total (tape_sizes set.shape)) i tapes.now)) set.shape.parties }
 {
-    let size = sets::tape_length(shape);
-    let sboxes = shape.m1 * shape.m2;
+    let size = sets::tape_length(set);
+    let sboxes = set.shape.m1 * set.shape.m2;
     let mut inverted = [0u8; 200];
     let mut given = [0u8; 200];
     let inverses = &mut inverted[0..sboxes];
     let inputs = &mut given[0..sboxes];
-    let n = shape.parties;
+    let n = set.shape.parties;
     for i in 0..n {
         let a = i * size;
         let b = a + size;
         let share = circuit_shares::walk(
-            shape,
+            set,
             i,
             front,
             key,

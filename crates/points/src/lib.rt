@@ -3,22 +3,20 @@
 
 ghost use Rattle.std.specs.Prelude.{◌≡◌, ◌*◌, ◌^◌, ◌<◌, length};
 ghost use Rattle.slices.specs.Lists.{tab};
-ghost use Rattle.sets.specs.Valid.{Valid};
 ghost use Rattle.sets.specs.Laws.{powers_of};
 ghost use Rattle.lifts.specs.Fields.{bits_of, low_of, powers_in};
 ghost use Rattle.forms.specs.Point.{near, far, tables_at};
 
-use banquet::Shape;
 use lifts::Field;
+use sets::ParameterSet;
 
 // The wide field of a parameter set.
-fn field_of(shape: Shape) -> Field
-    requires { Valid shape }
-    ensures bits { bits_of result ≡ 8 * shape.wide }
-    ensures low { low_of result ≡ shape.low }
-    ensures powers { powers_in result ≡ powers_of shape }
+fn field_of(set: ParameterSet) -> Field
+    ensures bits { bits_of result ≡ 8 * set.shape.wide }
+    ensures low { low_of result ≡ set.shape.low }
+    ensures powers { powers_in result ≡ powers_of set.shape }
 {
-    if shape.wide == 4 {
+    if set.shape.wide == 4 {
         Field::Bits32
     } else {
         Field::Bits48
@@ -26,20 +24,20 @@ fn field_of(shape: Shape) -> Field
 }
 
 // Lagrange's values at x for the points 0 to 40.
-pub fn far_values(shape: Shape, x: u64, out: &mut [u64])
-    requires { Valid shape × (x < 2 ^ (8 * shape.wide)) × (length out.old ≡ 41) }
-    ensures { out.new ≡ tab (far shape x) 41 }
+pub fn far_values(set: ParameterSet, x: u64, out: &mut [u64])
+    requires { (x < 2 ^ (8 * set.shape.wide)) × (length out.old ≡ 41) }
+    ensures { out.new ≡ tab (far set.shape x) 41 }
 {
-    lagrange_points::values(field_of(shape), x, out);
+    lagrange_points::values(field_of(set), x, out);
 }
 
 // Into out the tables of Lagrange's values at x for the points 0 to 19; the value for point 20.
-pub fn tables(shape: Shape, x: u64, out: &mut [u64]) -> u64
-    requires { Valid shape × (x < 2 ^ (8 * shape.wide)) × (length out.old ≡ 640) }
-    ensures value { result ≡ near shape x 20 }
-    ensures out_after { out.new ≡ tables_at shape x }
+pub fn tables(set: ParameterSet, x: u64, out: &mut [u64]) -> u64
+    requires { (x < 2 ^ (8 * set.shape.wide)) × (length out.old ≡ 640) }
+    ensures value { result ≡ near set.shape x 20 }
+    ensures out_after { out.new ≡ tables_at set.shape x }
 {
-    let field = field_of(shape);
+    let field = field_of(set);
     let mut values = [0u64; 21];
     lagrange_points::values(field, x, &mut values);
     let p = field.powers();

@@ -2,25 +2,24 @@
 #![tactic(auto)]
 
 ghost use Rattle.std.specs.Prelude.{◌≡◌, ◌*◌, length};
-ghost use Rattle.sets.specs.Valid.{Valid};
 ghost use Rattle.forms.specs.Sums.{bytes_product_holds};
 
-use banquet::Shape;
+use sets::ParameterSet;
 
 // c is the sum of a_j times b_j.
-pub fn holds(shape: Shape, c: &[u8], a: &[u8], b: &[u8]) -> bool
-    requires { Valid shape × (length c.now ≡ shape.wide) × (length a.now ≡ shape.m1 * shape.wide)
-        × (length b.now ≡ shape.m1 * shape.wide) }
-    ensures { result ≡ bytes_product_holds shape c.now a.now b.now }
+pub fn holds(set: ParameterSet, c: &[u8], a: &[u8], b: &[u8]) -> bool
+    requires { (length c.now ≡ set.shape.wide) × (length a.now ≡ set.shape.m1 * set.shape.wide)
+        × (length b.now ≡ set.shape.m1 * set.shape.wide) }
+    ensures { result ≡ bytes_product_holds set.shape c.now a.now b.now }
 {
-    let bits = (8 * shape.wide) as u32;
-    let sum = numbers::load(c, 0, shape.wide);
-    let m = shape.m1;
+    let bits = (8 * set.shape.wide) as u32;
+    let sum = numbers::load(c, 0, set.shape.wide);
+    let m = set.shape.m1;
     let mut elements_a = [0u64; 10];
     let mut elements_b = [0u64; 10];
     let x = &mut elements_a[0..m];
     let y = &mut elements_b[0..m];
-    elements::load(shape.wide, a, x);
-    elements::load(shape.wide, b, y);
-    sum == dots::dot(bits, shape.low, y, x)
+    elements::load(set.shape.wide, a, x);
+    elements::load(set.shape.wide, b, y);
+    sum == dots::dot(bits, set.shape.low, y, x)
 }

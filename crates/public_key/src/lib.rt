@@ -14,8 +14,8 @@ pub fn make_public_key(key: &[u8], plaintext: &[u8], output: &mut [u8]) -> Answe
     ensures { written result output.new
         ≡ make_public_key base_scheme key.now plaintext.now output.old }
 {
-    let shape = Parties16::SHAPE;
-    lengths::public_key(shape, key.len(), plaintext.len(), output.len())?;
+    let set = Parties16::SET;
+    lengths::public_key(set, key.len(), plaintext.len(), output.len())?;
     let mut inputs = [0u8; 200];
     let ciphertext = cipher::encrypt(key, plaintext, &mut inputs);
     // The key schedule's inputs with the rounds': "Some S-box input under the lent key is zero; place is the lowest S-box."

@@ -4,14 +4,12 @@
 ghost use Rattle.std.specs.Prelude.{◌≡◌, ◌++◌, ◌≤◌, length, drop, replicate};
 ghost use Rattle.banquet.specs.Shape.{message_limit, signature_length};
 ghost use Rattle.banquet.specs.Sets.{base, scheme_of, base_scheme};
-ghost use Rattle.sets.specs.Valid.{Valid};
 ghost use Rattle.card_theorems.specs.Cards.{card_length};
 ghost use Rattle.card_sizes.specs.Lines.{card_bytes};
 ghost use Rattle.requests.specs.Requests.{request_sizes, request_output};
 ghost use Rattle.requests.specs.Read.{Read};
 
-use banquet::Shape;
-use sets::Parties16;
+use sets::{ParameterSet, Parties16};
 
 // The bytes that the longest request of document 01's set stands for: key, public key, message, salt, and a root seed for each execution.
 pub const BYTES: usize = 16
@@ -24,42 +22,41 @@ pub const BYTES: usize = 16
 pub const TEXT: usize = 2 * BYTES + 5;
 
 // What each line of a request stands for.
-fn request_sizes(shape: Shape) -> [usize; 5]
-    requires { Valid shape }
-    ensures { result ≡ request_sizes shape message_limit }
+fn request_sizes(set: ParameterSet) -> [usize; 5]
+    ensures { result ≡ request_sizes set.shape message_limit }
 {
     [
         16,
-        sets::public_key_length(shape),
+        sets::public_key_length(set),
         banquet::MESSAGE_LIMIT,
         32,
-        shape.executions * 16,
+        set.shape.executions * 16,
     ]
 }
 
 // A request of any set, in form, is signed: `request` has what its text stands for, and `signature` is room for one. The set's cards stand for no
 // more bytes than the longest of document 01's set.
 fn sign_request(
-    shape: Shape,
+    set: ParameterSet,
     text: &[u8],
     request: &[u8],
     signature: &mut [u8],
     out: &mut [u8],
 ) -> usize
-    requires { Valid shape × Read (scheme_of shape) text.now request.now × (signature.old ≡ replicate (signature_length shape) 0)
-        × (card_bytes shape message_limit ≤ card_bytes base message_limit) × (card_length shape message_limit ≤ length out.old) }
-    ensures value { result ≡ length (request_output (scheme_of shape) text.now) }
-    ensures out_after { out.new ≡ request_output (scheme_of shape) text.now ++ drop result out.old }
+    requires { Read (scheme_of set.shape) text.now request.now × (signature.old ≡ replicate (signature_length set.shape) 0)
+        × (card_bytes set.shape message_limit ≤ card_bytes base message_limit) × (card_length set.shape message_limit ≤ length out.old) }
+    ensures value { result ≡ length (request_output (scheme_of set.shape) text.now) }
+    ensures out_after { out.new ≡ request_output (scheme_of set.shape) text.now ++ drop result out.old }
 {
-    let start = 16 + sets::public_key_length(shape);
+    let start = 16 + sets::public_key_length(set);
     let end = (text.len() - 5) / 2;
-    let seeds = end - shape.executions * 16;
+    let seeds = end - set.shape.executions * 16;
     let salt = seeds - 32;
     let public = &request[16..start];
     let message = &request[start..salt];
     let mut work = [0u8; banquet::WORK_LENGTH];
     if let Err(refusal) = sign_message::sign_message(
-        shape,
+        set,
         &request[0..16],
         public,
         message,
@@ -70,7 +67,7 @@ fn sign_request(
     ) {
         return print_verdict::print_verdict(verdict::verdict(Err(refusal)), out);
     }
-    write_card::write_card(shape, public, message, signature, out)
+    write_card::write_card(set, public, message, signature, out)
 }
 
 // What is written for a request to sign, of document 01's set, at the front of `out`; returns its length.
@@ -79,11 +76,11 @@ pub fn print_request(text: &[u8], out: &mut [u8]) -> usize
     ensures value { result ≡ length (request_output base_scheme text.now) }
     ensures out_after { out.new ≡ request_output base_scheme text.now ++ drop result out.old }
 {
-    let sizes = request_sizes(Parties16::SHAPE);
+    let sizes = request_sizes(Parties16::SET);
     let mut request = [0u8; BYTES];
     if let Err(refusal) = text_lines::read_lines(text, &sizes, 3, &mut request) {
         return print_verdict::print_verdict(verdict::verdict(Err(refusal)), out);
     }
     let mut signature = [0u8; card_sizes::SIGNATURE];
-    sign_request(Parties16::SHAPE, text, &request, &mut signature, out)
+    sign_request(Parties16::SET, text, &request, &mut signature, out)
 }

@@ -6,16 +6,16 @@ ghost use Rattle.slices.specs.Lists.{rows as rows_of, row};
 ghost use Rattle.slices.specs.Layout.{total};
 ghost use Rattle.banquet.specs.Sets.{scheme_of};
 ghost use Rattle.banquet.specs.Opening.{check_shares};
-ghost use Rattle.sets.specs.Valid.{Valid};
 ghost use Rattle.sets.specs.Bounds.{row_sizes};
 ghost use Rattle.forms.specs.Stated.{stated_row};
 ghost use Rattle.share_check.specs.Steps.{Given, made_row, rows_answer};
 
-use banquet::{Answer, Refusal, Shape};
+use banquet::{Answer, Refusal};
+use sets::ParameterSet;
 
 // The stated rows of all parties, and behind them those worked out from the seeds.
 fn fill_rows(
-    shape: Shape,
+    set: ParameterSet,
     public: &[u8],
     transcript: &[u8],
     e: u8,
@@ -23,22 +23,22 @@ fn fill_rows(
     seeds: &[u8],
     rows: &mut [u8],
 )
-    requires { Given shape public.now transcript.now e second × (shape.parties * 16 ≤ length seeds.now)
-        × (length rows.old ≡ 2 * (shape.parties * total (row_sizes shape))) }
+    requires { Given set.shape public.now transcript.now e second × (set.shape.parties * 16 ≤ length seeds.now)
+        × (length rows.old ≡ 2 * (set.shape.parties * total (row_sizes set.shape))) }
     ensures { rows.new
-        ≡ rows_of (stated_row shape transcript.now) shape.parties
-        ++ rows_of (made_row shape public.now transcript.now seeds.now) shape.parties }
+        ≡ rows_of (stated_row set.shape transcript.now) set.shape.parties
+        ++ rows_of (made_row set.shape public.now transcript.now seeds.now) set.shape.parties }
 {
-    let sizes: &[usize] = &opening_sizes::transcript_sizes(shape);
+    let sizes: &[usize] = &opening_sizes::transcript_sizes(set);
     let whole = rows.len();
     let half = whole / 2;
-    stated::rows(shape, transcript, &mut rows[0..half]);
+    stated::rows(set, transcript, &mut rows[0..half]);
     execution::share_rows(
-        shape,
+        set,
         fields::field(sizes, 0, transcript),
         e,
         seeds,
-        sets::front(shape, public),
+        sets::front(set.shape, public),
         fields::field(sizes, 4, transcript),
         fields::field(sizes, 5, transcript),
         fields::field(sizes, 6, transcript),
@@ -50,29 +50,29 @@ fn fill_rows(
 
 // Numbers 14 and 15 for the rows worked out and those stated.
 fn compare_rows(
-    shape: Shape,
+    set: ParameterSet,
     ciphertext: &[u8],
     e: u8,
     hidden: usize,
     made: &[u8],
     stated: &[u8],
 ) -> Answer
-    requires { Valid shape × (length made.now ≡ shape.parties * total (row_sizes shape))
-        × (length stated.now ≡ shape.parties * total (row_sizes shape)) }
+    requires { (length made.now ≡ set.shape.parties * total (row_sizes set.shape))
+        × (length stated.now ≡ set.shape.parties * total (row_sizes set.shape)) }
     ensures { result
-        ≡ rows_answer shape ciphertext.now e hidden made.now stated.now }
+        ≡ rows_answer set.shape ciphertext.now e hidden made.now stated.now }
 {
-    let len = sets::row_length(shape);
-    if let Some(i) = compare::first_difference(shape.parties, len, hidden, made, stated) {
+    let len = sets::row_length(set);
+    if let Some(i) = compare::first_difference(set.shape.parties, len, hidden, made, stated) {
         return Err(Refusal::ShareDiffers(i as u8));
     }
     let mut sums = [0u8; 142];
-    sum_check::check_sums(shape, ciphertext, e, stated, &mut sums[0..len])
+    sum_check::check_sums(set, ciphertext, e, stated, &mut sums[0..len])
 }
 
 // Numbers 14 and 15, with scratch for the stated rows and those worked out.
 pub fn check_rows(
-    shape: Shape,
+    set: ParameterSet,
     public: &[u8],
     transcript: &[u8],
     e: u8,
@@ -81,19 +81,19 @@ pub fn check_rows(
     seeds: &[u8],
     rows: &mut [u8],
 ) -> Answer
-    requires { Given shape public.now transcript.now e second × (shape.parties * 16 ≤ length seeds.now)
-        × (length rows.old ≡ 2 * (shape.parties * total (row_sizes shape))) }
-    ensures value { result ≡ check_shares (scheme_of shape) public.now transcript.now hidden (λ i. row 16 i seeds.now) }
+    requires { Given set.shape public.now transcript.now e second × (set.shape.parties * 16 ≤ length seeds.now)
+        × (length rows.old ≡ 2 * (set.shape.parties * total (row_sizes set.shape))) }
+    ensures value { result ≡ check_shares (scheme_of set.shape) public.now transcript.now hidden (λ i. row 16 i seeds.now) }
     ensures rows_after { rows.new
-        ≡ rows_of (stated_row shape transcript.now) shape.parties
-        ++ rows_of (made_row shape public.now transcript.now seeds.now) shape.parties }
+        ≡ rows_of (stated_row set.shape transcript.now) set.shape.parties
+        ++ rows_of (made_row set.shape public.now transcript.now seeds.now) set.shape.parties }
 {
-    fill_rows(shape, public, transcript, e, second, seeds, rows);
+    fill_rows(set, public, transcript, e, second, seeds, rows);
     let whole = rows.len();
     let half = whole / 2;
     compare_rows(
-        shape,
-        sets::ciphertext(shape, public),
+        set,
+        sets::ciphertext(set.shape, public),
         e,
         hidden,
         &rows[half..whole],

@@ -8,14 +8,14 @@ ghost use Rattle.banquet.specs.Sets.{scheme_of};
 ghost use Rattle.banquet.specs.Key.{check_key};
 ghost use Rattle.banquet.specs.Signature.{signature};
 ghost use Rattle.banquet.specs.Calls.{made, made_after, sign};
-ghost use Rattle.sets.specs.Valid.{Valid};
 ghost use Rattle.sign_message.specs.Lengths.{Lengths};
 
-use banquet::{Answer, Shape};
+use banquet::Answer;
+use sets::ParameterSet;
 
 // Numbers 11 and 12, and else the signature.
 fn sign_key(
-    shape: Shape,
+    set: ParameterSet,
     key: &[u8],
     public: &[u8],
     message: &[u8],
@@ -24,22 +24,22 @@ fn sign_key(
     out: &mut [u8],
     work: &mut [u8],
 ) -> Answer
-    requires { Lengths shape key.now public.now salt.now seeds.now
-        × (signature_length shape ≤ length out.old) × (work_length ≤ length work.old) }
+    requires { Lengths set.shape key.now public.now salt.now seeds.now
+        × (signature_length set.shape ≤ length out.old) × (work_length ≤ length work.old) }
     ensures { made result out.new work.new
-        ≡ made_after (check_key (scheme_of shape) public.now key.now accepted)
-        (signature (scheme_of shape) key.now public.now message.now salt.now seeds.now)
+        ≡ made_after (check_key (scheme_of set.shape) public.now key.now accepted)
+        (signature (scheme_of set.shape) key.now public.now message.now salt.now seeds.now)
         out.old work.old }
 {
-    let n = shape.m1 * shape.m2;
+    let n = set.shape.m1 * set.shape.m2;
     let mut given = [0u8; 200];
     let mut inverted = [0u8; 200];
     let inputs = &mut given[0..n];
     let inverses = &mut inverted[0..n];
-    check_key::check_key(shape, key, public, inputs, inverses)?;
-    let size = frames::signature_length(shape);
+    check_key::check_key(set, key, public, inputs, inverses)?;
+    let size = frames::signature_length(set);
     make_signature::make(
-        shape,
+        set,
         key,
         public,
         message,
@@ -56,7 +56,7 @@ fn sign_key(
 
 // The call, which refuses by lengths first.
 pub fn sign_message(
-    shape: Shape,
+    set: ParameterSet,
     key: &[u8],
     public: &[u8],
     message: &[u8],
@@ -65,13 +65,12 @@ pub fn sign_message(
     out: &mut [u8],
     work: &mut [u8],
 ) -> Answer
-    requires { Valid shape }
     ensures { made result out.new work.new
-        ≡ sign (scheme_of shape) key.now public.now message.now salt.now seeds.now
+        ≡ sign (scheme_of set.shape) key.now public.now message.now salt.now seeds.now
         out.old work.old }
 {
     lengths::sign(
-        shape,
+        set,
         key.len(),
         public.len(),
         message.len(),
@@ -80,5 +79,5 @@ pub fn sign_message(
         out.len(),
         work.len(),
     )?;
-    sign_key(shape, key, public, message, salt, seeds, out, work)
+    sign_key(set, key, public, message, salt, seeds, out, work)
 }

@@ -13,8 +13,8 @@ pub fn verify(public: &[u8], message: &[u8], signature: &[u8], work: &mut [u8]) 
     ensures { checked result work.new
         ≡ verify_of base_scheme public.now message.now signature.now work.old }
 {
-    let shape = Parties16::SHAPE;
-    check_signature::check(shape, public, message, signature, work)
+    let set = Parties16::SET;
+    check_signature::check(set, public, message, signature, work)
 }
 
 // A message is signed. On success the signature is the output's first 19,776 bytes and the work slice's first 65,536 bytes are zero; a refusal leaves
@@ -32,6 +32,6 @@ pub fn sign(
         ≡ sign_of base_scheme key.now public.now message.now salt.now seeds.now
         out.old work.old }
 {
-    let shape = Parties16::SHAPE;
-    sign_message::sign_message(shape, key, public, message, salt, seeds, out, work)
+    let set = Parties16::SET;
+    sign_message::sign_message(set, key, public, message, salt, seeds, out, work)
 }

@@ -8,11 +8,10 @@ ghost use Rattle.banquet.specs.Shape.{sboxes, tape_sizes, first_challenge_length
 ghost use Rattle.banquet.specs.Sets.{scheme_of};
 ghost use Rattle.banquet.specs.Hash.{tape};
 ghost use Rattle.banquet.specs.Execution.{tape_part};
-ghost use Rattle.sets.specs.Valid.{Valid};
 ghost use Rattle.forms.specs.Offsets.{worked_offsets};
 ghost use Rattle.product_offsets.specs.Given.{Rows};
 
-use banquet::Shape;
+use sets::ParameterSet;
 
 // "An offset is the true value plus the sum of tape shares."
 fn offset_of(value: &[u8], shares: &[u8], out: &mut [u8])
@@ -25,25 +24,25 @@ fn offset_of(value: &[u8], shares: &[u8], out: &mut [u8])
 
 // The offsets of the key and of the inverses.
 fn byte_offsets(
-    shape: Shape,
+    set: ParameterSet,
     key: &[u8],
     inverses: &[u8],
     sum: &[u8],
     offset: &mut [u8],
     inverse: &mut [u8],
 )
-    requires { Valid shape × (length key.now ≡ 16) × (length inverses.now ≡ sboxes shape) × (length sum.now ≡ total (tape_sizes shape))
-        × (length offset.old ≡ 16) × (length inverse.old ≡ sboxes shape) }
-    ensures offset_after { offset.new ≡ zip_xor key.now (tape_part (scheme_of shape) 0 sum.now) }
-    ensures inverse_after { inverse.new ≡ zip_xor inverses.now (tape_part (scheme_of shape) 1 sum.now) }
+    requires { (length key.now ≡ 16) × (length inverses.now ≡ sboxes set.shape) × (length sum.now ≡ total (tape_sizes set.shape))
+        × (length offset.old ≡ 16) × (length inverse.old ≡ sboxes set.shape) }
+    ensures offset_after { offset.new ≡ zip_xor key.now (tape_part (scheme_of set.shape) 0 sum.now) }
+    ensures inverse_after { inverse.new ≡ zip_xor inverses.now (tape_part (scheme_of set.shape) 1 sum.now) }
 {
-    offset_of(key, tapes::tape_part(shape, 0, sum), offset);
-    offset_of(inverses, tapes::tape_part(shape, 1, sum), inverse);
+    offset_of(key, tapes::tape_part(set, 0, sum), offset);
+    offset_of(inverses, tapes::tape_part(set, 1, sum), inverse);
 }
 
 // All offsets of an execution.
 pub fn offsets(
-    shape: Shape,
+    set: ParameterSet,
     salt: &[u8],
     e: u8,
     seeds: &[u8],
@@ -57,25 +56,25 @@ pub fn offsets(
     inverse: &mut [u8],
     product: &mut [u8],
 )
-    requires { Rows shape us.now vs.now lasts.now × (length salt.now ≡ 32) × (shape.parties * 16 ≤ length seeds.now)
-        × (length key.now ≡ 16) × (length inverses.now ≡ sboxes shape) × (length first.now ≡ first_challenge_length shape)
-        × (length offset.old ≡ 16) × (length inverse.old ≡ sboxes shape)
-        × (length product.old ≡ product_points shape * shape.wide) }
+    requires { Rows set.shape us.now vs.now lasts.now × (length salt.now ≡ 32) × (set.shape.parties * 16 ≤ length seeds.now)
+        × (length key.now ≡ 16) × (length inverses.now ≡ sboxes set.shape) × (length first.now ≡ first_challenge_length set.shape)
+        × (length offset.old ≡ 16) × (length inverse.old ≡ sboxes set.shape)
+        × (length product.old ≡ product_points set.shape * set.shape.wide) }
     ensures offset_after { offset.new
-        ≡ zip_xor key.now (tape_part (scheme_of shape) 0 (sum_xor shape.parties
-        (λ i. tape (scheme_of shape) salt.now e i (row 16 i seeds.now)))) }
+        ≡ zip_xor key.now (tape_part (scheme_of set.shape) 0 (sum_xor set.shape.parties
+        (λ i. tape (scheme_of set.shape) salt.now e i (row 16 i seeds.now)))) }
     ensures inverse_after { inverse.new
-        ≡ zip_xor inverses.now (tape_part (scheme_of shape) 1 (sum_xor shape.parties
-        (λ i. tape (scheme_of shape) salt.now e i (row 16 i seeds.now)))) }
+        ≡ zip_xor inverses.now (tape_part (scheme_of set.shape) 1 (sum_xor set.shape.parties
+        (λ i. tape (scheme_of set.shape) salt.now e i (row 16 i seeds.now)))) }
     ensures product_after { product.new
-        ≡ worked_offsets shape us.now vs.now lasts.now (sum_xor shape.parties
-        (λ i. tape (scheme_of shape) salt.now e i (row 16 i seeds.now))) first.now }
+        ≡ worked_offsets set.shape us.now vs.now lasts.now (sum_xor set.shape.parties
+        (λ i. tape (scheme_of set.shape) salt.now e i (row 16 i seeds.now))) first.now }
 {
-    let size = sets::tape_length(shape);
+    let size = sets::tape_length(set);
     let mut room = [0u8; 462];
     let added = &mut room[0..size];
-    hash_sums::hash_sum(4, salt, e, shape.parties, seeds, added);
+    hash_sums::hash_sum(4, salt, e, set.shape.parties, seeds, added);
     let sum: &[u8] = added;
-    byte_offsets(shape, key, inverses, sum, offset, inverse);
-    product_offsets::product_offsets(shape, us, vs, lasts, sum, first, product);
+    byte_offsets(set, key, inverses, sum, offset, inverse);
+    product_offsets::product_offsets(set, us, vs, lasts, sum, first, product);
 }

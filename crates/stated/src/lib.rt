@@ -5,11 +5,10 @@ ghost use Rattle.std.specs.Prelude.{◌≡◌, ◌+◌, ◌*◌, ◌^◌, ◌<�
 ghost use Rattle.slices.specs.Lists.{rows as rows_of, row, put};
 ghost use Rattle.slices.specs.Layout.{total, field};
 ghost use Rattle.banquet.specs.Shape.{transcript_sizes};
-ghost use Rattle.sets.specs.Valid.{Valid};
 ghost use Rattle.sets.specs.Bounds.{row_sizes};
 ghost use Rattle.forms.specs.Stated.{stated_row};
 
-use banquet::Shape;
+use sets::ParameterSet;
 
 // Row i of field k, as part p of a row of shares; sizes are those of the fields, parts those of the row's parts.
 fn copy_share(
@@ -36,13 +35,13 @@ fn copy_share(
 }
 
 // The stated shares of party i: output, c, a, b.
-fn stated_row(shape: Shape, transcript: &[u8], i: usize, out: &mut [u8])
-    requires { Valid shape × (length transcript.now ≡ total (transcript_sizes shape)) × (i < shape.parties)
-        × (length out.old ≡ total (row_sizes shape)) }
-    ensures { out.new ≡ stated_row shape transcript.now i }
+fn stated_row(set: ParameterSet, transcript: &[u8], i: usize, out: &mut [u8])
+    requires { (length transcript.now ≡ total (transcript_sizes set.shape)) × (i < set.shape.parties)
+        × (length out.old ≡ total (row_sizes set.shape)) }
+    ensures { out.new ≡ stated_row set.shape transcript.now i }
 {
-    let sizes: &[usize] = &opening_sizes::transcript_sizes(shape);
-    let parts: &[usize] = &sets::row_sizes(shape);
+    let sizes: &[usize] = &opening_sizes::transcript_sizes(set);
+    let parts: &[usize] = &sets::row_sizes(set);
     copy_share(sizes, 3, parts, 0, i, transcript, out);
     copy_share(sizes, 9, parts, 1, i, transcript, out);
     copy_share(sizes, 10, parts, 2, i, transcript, out);
@@ -50,16 +49,16 @@ fn stated_row(shape: Shape, transcript: &[u8], i: usize, out: &mut [u8])
 }
 
 // The stated shares of all parties.
-pub fn rows(shape: Shape, transcript: &[u8], out: &mut [u8])
-    requires { Valid shape × (length transcript.now ≡ total (transcript_sizes shape))
-        × (length out.old ≡ shape.parties * total (row_sizes shape)) }
-    ensures { out.new ≡ rows_of (stated_row shape transcript.now) shape.parties }
+pub fn rows(set: ParameterSet, transcript: &[u8], out: &mut [u8])
+    requires { (length transcript.now ≡ total (transcript_sizes set.shape))
+        × (length out.old ≡ set.shape.parties * total (row_sizes set.shape)) }
+    ensures { out.new ≡ rows_of (stated_row set.shape transcript.now) set.shape.parties }
 {
-    let len = sets::row_length(shape);
-    let n = shape.parties;
+    let len = sets::row_length(set);
+    let n = set.shape.parties;
     for i in 0..n {
         let a = i * len;
         let b = a + len;
-        stated_row(shape, transcript, i, &mut out[a..b]);
+        stated_row(set, transcript, i, &mut out[a..b]);
     }
 }

@@ -6,24 +6,23 @@ ghost use Rattle.std.specs.Prelude.{◌≡◌, ◌+◌, ◌*◌, ◌^◌, ◌<�
 ghost use Rattle.slices.specs.Lists.{put};
 ghost use Rattle.slices.specs.Layout.{total};
 ghost use Rattle.banquet.specs.Shape.{sboxes, first_challenge_length, product_points, transcript_sizes, opening_length};
-ghost use Rattle.sets.specs.Valid.{Valid};
 ghost use Rattle.sets.specs.Bounds.{row_sizes};
 ghost use Rattle.write_opening.specs.Written.{head, middle, field_column, written_transcript, written};
 
-use banquet::Shape;
+use sets::ParameterSet;
 
 // "salt 32, e 1, commitments 512"
-fn write_head(shape: Shape, salt: &[u8], e: u8, seeds: &[u8], out: &mut [u8])
-    requires { Valid shape × (length salt.now ≡ 32) × (shape.parties * 16 ≤ length seeds.now)
-        × (total (transcript_sizes shape) ≤ length out.old) }
-    ensures { out.new ≡ put out.old 0 (head shape salt.now e seeds.now) }
+fn write_head(set: ParameterSet, salt: &[u8], e: u8, seeds: &[u8], out: &mut [u8])
+    requires { (length salt.now ≡ 32) × (set.shape.parties * 16 ≤ length seeds.now)
+        × (total (transcript_sizes set.shape) ≤ length out.old) }
+    ensures { out.new ≡ put out.old 0 (head set.shape salt.now e seeds.now) }
 {
-    let sizes: &[usize] = &opening_sizes::transcript_sizes(shape);
+    let sizes: &[usize] = &opening_sizes::transcript_sizes(set);
     let a = fields::offset(sizes, 2);
     let b = fields::offset(sizes, 3);
     slices::copy_at(out, 0, salt);
     out[salt.len()] = e;
-    party::hash_rows(0, salt, e, shape.parties, 32, seeds, &mut out[a..b]);
+    party::hash_rows(0, salt, e, set.shape.parties, 32, seeds, &mut out[a..b]);
 }
 
 // "key offset 16, inverse offsets 200, r 40, product offsets 84, R 4" from index at on; key, inverse and product are these offsets, and R has wide
@@ -79,7 +78,7 @@ fn write_column(
 // "salt 32, e 1, commitments 512, output shares 256, key offset 16, inverse offsets 200, r 40, product offsets 84, R 4, shares of c 64, of a 640, of
 // b 640 (by party)", where rows has each party's shares of the output, of c, a and b; key, inverse and product are the offsets.
 fn write_transcript(
-    shape: Shape,
+    set: ParameterSet,
     salt: &[u8],
     e: u8,
     seeds: &[u8],
@@ -91,21 +90,30 @@ fn write_transcript(
     rows: &[u8],
     out: &mut [u8],
 )
-    requires { Valid shape × (length salt.now ≡ 32) × (shape.parties * 16 ≤ length seeds.now) × (length key.now ≡ 16)
-        × (length inverse.now ≡ sboxes shape) × (length first.now ≡ first_challenge_length shape)
-        × (length product.now ≡ product_points shape * shape.wide) × (length rows.now ≡ shape.parties * total (row_sizes shape))
-        × (length out.old ≡ total (transcript_sizes shape)) }
+    requires { (length salt.now ≡ 32) × (set.shape.parties * 16 ≤ length seeds.now) × (length key.now ≡ 16)
+        × (length inverse.now ≡ sboxes set.shape) × (length first.now ≡ first_challenge_length set.shape)
+        × (length product.now ≡ product_points set.shape * set.shape.wide) × (length rows.now ≡ set.shape.parties * total (row_sizes set.shape))
+        × (length out.old ≡ total (transcript_sizes set.shape)) }
     ensures { out.new
-        ≡ written_transcript shape salt.now e seeds.now key.now inverse.now first.now
+        ≡ written_transcript set.shape salt.now e seeds.now key.now inverse.now first.now
         product.now second rows.now }
 {
-    let n = shape.parties;
-    let sizes: &[usize] = &opening_sizes::transcript_sizes(shape);
-    let parts: &[usize] = &sets::row_sizes(shape);
+    let n = set.shape.parties;
+    let sizes: &[usize] = &opening_sizes::transcript_sizes(set);
+    let parts: &[usize] = &sets::row_sizes(set);
     let at = fields::offset(sizes, 4);
-    write_head(shape, salt, e, seeds, out);
+    write_head(set, salt, e, seeds, out);
     write_column(sizes, 3, parts, 0, n, rows, out);
-    write_middle(shape.wide, key, inverse, first, product, second, at, out);
+    write_middle(
+        set.shape.wide,
+        key,
+        inverse,
+        first,
+        product,
+        second,
+        at,
+        out,
+    );
     write_column(sizes, 9, parts, 1, n, rows, out);
     write_column(sizes, 10, parts, 2, n, rows, out);
     write_column(sizes, 11, parts, 3, n, rows, out);
@@ -113,7 +121,7 @@ fn write_transcript(
 
 // The whole opening: the transcript, then "hidden party 1, sibling seeds 64".
 pub fn write(
-    shape: Shape,
+    set: ParameterSet,
     salt: &[u8],
     e: u8,
     root: &[u8],
@@ -127,19 +135,19 @@ pub fn write(
     rows: &[u8],
     out: &mut [u8],
 )
-    requires { Valid shape × (length salt.now ≡ 32) × (length root.now ≡ 16) × (hidden < 256)
-        × (shape.parties * 16 ≤ length seeds.now) × (length key.now ≡ 16) × (length inverse.now ≡ sboxes shape)
-        × (length first.now ≡ first_challenge_length shape) × (length product.now ≡ product_points shape * shape.wide)
-        × (length rows.now ≡ shape.parties * total (row_sizes shape)) × (length out.old ≡ opening_length shape) }
+    requires { (length salt.now ≡ 32) × (length root.now ≡ 16) × (hidden < 256)
+        × (set.shape.parties * 16 ≤ length seeds.now) × (length key.now ≡ 16) × (length inverse.now ≡ sboxes set.shape)
+        × (length first.now ≡ first_challenge_length set.shape) × (length product.now ≡ product_points set.shape * set.shape.wide)
+        × (length rows.now ≡ set.shape.parties * total (row_sizes set.shape)) × (length out.old ≡ opening_length set.shape) }
     ensures { out.new
-        ≡ written shape salt.now e root.now hidden seeds.now key.now
+        ≡ written set.shape salt.now e root.now hidden seeds.now key.now
         inverse.now first.now product.now second rows.now }
 {
-    let d = opening_sizes::transcript_length(shape);
+    let d = opening_sizes::transcript_length(set);
     let s = d + 1;
     let end = out.len();
     write_transcript(
-        shape,
+        set,
         salt,
         e,
         seeds,
@@ -152,5 +160,5 @@ pub fn write(
         &mut out[0..d],
     );
     out[d] = hidden as u8;
-    siblings::sibling_seeds(shape.depth, salt, e, 0, root, hidden, &mut out[s..end]);
+    siblings::sibling_seeds(set.shape.depth, salt, e, 0, root, hidden, &mut out[s..end]);
 }

@@ -8,7 +8,7 @@ returns : tie.Need-returns
 returns c =
     let f = c in
     let s = f in
-    sizes_are s.args.shape s.args.m s.requires.brief c.public_key_length.ensures.0 f.frame_length-sizes.ensures.0
+    sizes_are s.args.set.shape s.args.m s.args.set.valid.brief c.public_key_length.ensures.0 f.frame_length-sizes.ensures.0
 
 pub card_sizes_spec : {M : Type 1} → statement M
 card_sizes_spec =

@@ -8,7 +8,7 @@ use Rattle.challenges.proofs.hidden.Tie as tie
 
 returns : tie.Need-returns
 unfolding party_of
-returns c = ap (◌% c.args.shape.parties) c.load-x.ensures
+returns c = ap (◌% c.args.set.shape.parties) c.load-x.ensures
 
 pub hidden_spec : {M : Type 1} → statement M
 hidden_spec = tie.close (tie.spec (λ c. search rules) (λ c κs. search rules) (λ c. search rules) returns)

@@ -9,13 +9,13 @@ use Rattle.challenges.proofs.second.Tie as tie
 returns : tie.Need-returns-then-x-least
 returns c =
     let x = c.load-x in
-    let m = c.args.shape.m2 in
+    let m = c.args.set.shape.m2 in
     sym (moved m x.result c.if-x-least.true) ∙ ap (evaluation_point m) x.ensures
 
 returns-2 : tie.Need-returns
 returns-2 c =
     let x = c.load-x in
-    let m = c.args.shape.m2 in
+    let m = c.args.set.shape.m2 in
     sym (kept m x.result c.if-x-least.false) ∙ ap (evaluation_point m) x.ensures
 
 pub second_spec : {M : Type 1} → statement M

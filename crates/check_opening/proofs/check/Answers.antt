@@ -22,39 +22,39 @@ module _ (S : Shape) (key o work : List ℕ) {a : Answer} (is : a ≡ in_order (
 pub returns-in_err-verify_opening : goal.returns-in_err-verify_opening
 returns-in_err-verify_opening c =
     let a = c.args in
-    refused a.shape a.public.now a.opening.now a.work.now c.verify_opening.ensures c.in_err-verify_opening.was c.from_residual.ensures.1
+    refused a.set.shape a.public.now a.opening.now a.work.now c.verify_opening.ensures c.in_err-verify_opening.was c.from_residual.ensures.1
 
 pub bounds-opening-end : goal.bounds-opening-end
 bounds-opening-end c =
     let a = c.args in
     omega
-    (arith, within a.shape a.public.now a.opening.now a.work.now c.verify_opening.ensures c.in_ok-verify_opening.was c.transcript_length-end.ensures.0)
+    (arith, within a.set.shape a.public.now a.opening.now a.work.now c.verify_opening.ensures c.in_ok-verify_opening.was c.transcript_length-end.ensures.0)
 
 pub slice_bounds-check_ranges-end : goal.slice_bounds-check_ranges-end
 slice_bounds-check_ranges-end c =
     let a = c.args in
     omega
-    (arith, within a.shape a.public.now a.opening.now a.work.now c.verify_opening.ensures c.in_ok-verify_opening.was c.transcript_length-end.ensures.0)
+    (arith, within a.set.shape a.public.now a.opening.now a.work.now c.verify_opening.ensures c.in_ok-verify_opening.was c.transcript_length-end.ensures.0)
 
 pub slice_bounds-check_ranges-count-2 : goal.slice_bounds-check_ranges-count-2
 slice_bounds-check_ranges-count-2 c =
     let a = c.args in
-    within a.shape a.public.now a.opening.now a.work.now c.verify_opening.ensures c.in_ok-verify_opening.was c.transcript_length-end.ensures.0
+    within a.set.shape a.public.now a.opening.now a.work.now c.verify_opening.ensures c.in_ok-verify_opening.was c.transcript_length-end.ensures.0
 
 pub slice_bounds-check_ranges-start-2 : goal.slice_bounds-check_ranges-start-2
 slice_bounds-check_ranges-start-2 c =
     let a = c.args in
-    within a.shape a.public.now a.opening.now a.work.now c.verify_opening.ensures c.in_ok-verify_opening.was c.transcript_length-end.ensures.0
+    within a.set.shape a.public.now a.opening.now a.work.now c.verify_opening.ensures c.in_ok-verify_opening.was c.transcript_length-end.ensures.0
 
 pub check_ranges-requires : goal.check_ranges-requires
 check_ranges-requires c =
     let a = c.args in
-    let pass = right a.shape a.public.now a.opening.now a.work.now c.verify_opening.ensures c.in_ok-verify_opening.was in
-    let long = parts_long a.shape a.public.now a.opening.now a.work.now pass c.transcript_length-end.ensures.0 in
-    (c.requires, eqb-true _ _ (pass 0), long.0, long.1, leb-true _ _ (pass 2))
+    let pass = right a.set.shape a.public.now a.opening.now a.work.now c.verify_opening.ensures c.in_ok-verify_opening.was in
+    let long = parts_long a.set.shape a.public.now a.opening.now a.work.now pass c.transcript_length-end.ensures.0 in
+    (eqb-true _ _ (pass 0), long.0, long.1, leb-true _ _ (pass 2))
 
 pub returns : goal.returns
 returns c =
     let a = c.args in
-    let pass = right a.shape a.public.now a.opening.now a.work.now c.verify_opening.ensures c.in_ok-verify_opening.was in
-    opening_checked_lem a.shape a.public.now a.opening.now a.work.now pass c.transcript_length-end.ensures.0 c.check_ranges.ensures
+    let pass = right a.set.shape a.public.now a.opening.now a.work.now c.verify_opening.ensures c.in_ok-verify_opening.was in
+    opening_checked_lem a.set.shape a.public.now a.opening.now a.work.now pass c.transcript_length-end.ensures.0 c.check_ranges.ensures

@@ -29,7 +29,7 @@ field-requires c =
 pub expand_shown-requires : goal.expand_shown-requires
 expand_shown-requires c =
     let a = c.args in (
-      field_size a.shape a.transcript.now 0 c.transcript_sizes.ensures c.requires.0.stated.size c.field.ensures,
+      field_size a.set.shape a.transcript.now 0 c.transcript_sizes.ensures c.requires.0.stated.size c.field.ensures,
       c.requires.1,
       lent c.requires.0.valid c.leaf_bytes-end.ensures.0,
       omega (arith, leaves_most c.requires.0.valid),
@@ -40,7 +40,7 @@ returns-in-Some-clause-value c =
     let a = c.args in
     commitment_refused c.requires.0 a.siblings.now a.hidden c.requires.1
     (c.expand_shown.ensures
-    ∙ ap (λ l. node_seeds (shown_leaves shake128 l a.e a.shape.depth 0 a.siblings.now a.hidden))
+    ∙ ap (λ l. node_seeds (shown_leaves shake128 l a.e a.set.shape.depth 0 a.siblings.now a.hidden))
     (c.field.ensures ∙ ap (λ l. field l 0 a.transcript.now) c.transcript_sizes.ensures))
     (c.expand_shown.auto.out ∙ lent c.requires.0.valid c.leaf_bytes-end.ensures.0) c.leaf_bytes-end.result zeros
     c.first_commitment-differs.ensures.value c.in-Some.is
@@ -48,7 +48,7 @@ returns-in-Some-clause-value c =
 pub returns-in-Some-clause-scratch : goal.returns-in-Some-clause-scratch
 returns-in-Some-clause-scratch c =
     let a = c.args in
-    scratch_front (a.shape.parties * 32) a.work.now c.first_commitment-differs.new.scratch (omega (arith, c.requires.0.valid.few)) c.requires.2
+    scratch_front (a.set.shape.parties * 32) a.work.now c.first_commitment-differs.new.scratch (omega (arith, c.requires.0.valid.few)) c.requires.2
     c.first_commitment-differs.auto.scratch
 
 pub returns-clause-value : goal.returns-clause-value
@@ -56,7 +56,7 @@ returns-clause-value c =
     let a = c.args in
     commitments_passed c.requires.0 a.siblings.now a.hidden c.requires.1
     (c.expand_shown.ensures
-    ∙ ap (λ l. node_seeds (shown_leaves shake128 l a.e a.shape.depth 0 a.siblings.now a.hidden))
+    ∙ ap (λ l. node_seeds (shown_leaves shake128 l a.e a.set.shape.depth 0 a.siblings.now a.hidden))
     (c.field.ensures ∙ ap (λ l. field l 0 a.transcript.now) c.transcript_sizes.ensures))
     (c.expand_shown.auto.out ∙ lent c.requires.0.valid c.leaf_bytes-end.ensures.0) c.leaf_bytes-end.result zeros
     c.first_commitment-differs.ensures.value c.in_default.is c.check_rows.ensures.value
@@ -64,11 +64,11 @@ returns-clause-value c =
 pub returns-clause-scratch : goal.returns-clause-scratch
 returns-clause-scratch c =
     let a = c.args in
-    let first : Scratch a.work.now (put_mid 0 (a.shape.parties * 32 - 0) a.work.now c.first_commitment-differs.new.scratch) =
-    scratch_front (a.shape.parties * 32) a.work.now c.first_commitment-differs.new.scratch (omega (arith, c.requires.0.valid.few)) c.requires.2
+    let first : Scratch a.work.now (put_mid 0 (a.set.shape.parties * 32 - 0) a.work.now c.first_commitment-differs.new.scratch) =
+    scratch_front (a.set.shape.parties * 32) a.work.now c.first_commitment-differs.new.scratch (omega (arith, c.requires.0.valid.few)) c.requires.2
     c.first_commitment-differs.auto.scratch in
-    let n = 2 * (a.shape.parties * c.row_length.result) in
-    let most : a.shape.parties * c.row_length.result ≤ 18176 = rows_most c.requires.0.valid c.row_length.ensures.1 in
+    let n = 2 * (a.set.shape.parties * c.row_length.result) in
+    let most : a.set.shape.parties * c.row_length.result ≤ 18176 = rows_most c.requires.0.valid c.row_length.ensures.1 in
     scratch_then first
-    (scratch_front n (put_mid 0 (a.shape.parties * 32 - 0) a.work.now c.first_commitment-differs.new.scratch) c.check_rows.new.rows
+    (scratch_front n (put_mid 0 (a.set.shape.parties * 32 - 0) a.work.now c.first_commitment-differs.new.scratch) c.check_rows.new.rows
     (omega (arith, most)) (omega (arith, first.long, c.requires.2)) c.check_rows.auto.rows)

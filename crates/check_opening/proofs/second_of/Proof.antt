@@ -19,27 +19,27 @@ offset-requires : tie.Need-offset-at-requires
 offset-requires c κs =
     let z = c.before in
     let s = start z in
-    let fits = transcript_fits s.requires.0 s.args.transcript.now z.transcript_sizes.ensures s.requires.1 8 (omega arith) in
+    let fits = transcript_fits s.args.set.valid s.args.transcript.now z.transcript_sizes.ensures s.requires 8 (omega arith) in
     (omega (arith, fits.0), fits.2)
 
 module _ (c : tie.After-offset-at) where
   abbrev begun : tie.Start
   begun = start c.before.before
 
-  at_is : c.offset-at.result ≡ total (take 8 (transcript_sizes begun.args.shape))
+  at_is : c.offset-at.result ≡ total (take 8 (transcript_sizes begun.args.set.shape))
   at_is = c.offset-at.ensures ∙ ap (λ l. total (take 8 l)) c.transcript_sizes.ensures
 
 load-requires : tie.Need-load-requires
 load-requires c κs =
     let s = begun c in
-    (omega (arith, s.requires.0.wide_most), omega (arith, at_is c, total_take_fits (transcript_sizes s.args.shape) 8, s.requires.1))
+    (omega (arith, s.args.set.valid.wide_most), omega (arith, at_is c, total_take_fits (transcript_sizes s.args.set.shape) 8, s.requires))
 
 returns : tie.Need-returns
 returns c =
     let o = c.before in
     let s = begun o in
-    c.load.ensures ∙ ap (λ n. number (part n s.args.shape.wide s.args.transcript.now)) (at_is o)
-    ∙ ap number (sym (field_part (transcript_sizes s.args.shape) 8 s.args.transcript.now))
+    c.load.ensures ∙ ap (λ n. number (part n s.args.set.shape.wide s.args.transcript.now)) (at_is o)
+    ∙ ap number (sym (field_part (transcript_sizes s.args.set.shape) 8 s.args.transcript.now))
 
 pub second_of_spec : {M : Type 1} → statement M
 second_of_spec = tie.close (tie.spec (λ c κs. search rules) (λ c. search rules) offset-requires load-requires returns)

@@ -16,12 +16,12 @@ use Rattle.check_signature.proofs.absorb_executions.Statement.{statement}
 use Rattle.check_signature.proofs.absorb_executions.Tie as tie
 
 abbrev invariant-loop : tie.invariant-loop-e
-invariant-loop shape public s firsts seconds thirds commitments₀ rows₀ n count t₀ e₀ commitments rows t e =
-    (e ≤ count) × (length commitments ≡ shape.parties * 32) × (length rows ≡ shape.parties * total (row_sizes shape))
-    × Absorbed shape public s t₀.first t₀.third e t.first t.third
+invariant-loop set public s firsts seconds thirds commitments₀ rows₀ n count t₀ e₀ commitments rows t e =
+    (e ≤ count) × (length commitments ≡ set.shape.parties * 32) × (length rows ≡ set.shape.parties * total (row_sizes set.shape))
+    × Absorbed set.shape public s t₀.first t₀.third e t.first t.third
 
 abbrev decreases-loop : tie.decreases-loop-e
-decreases-loop shape public s firsts seconds thirds commitments₀ rows₀ n count t₀ e₀ commitments rows t e = count - e
+decreases-loop set public s firsts seconds thirds commitments₀ rows₀ n count t₀ e₀ commitments rows t e = count - e
 
 -- ---- earlier moments
 
@@ -49,20 +49,20 @@ loop-holds : tie.Need-loop-e-init invariant-loop decreases-loop
 loop-holds c =
     let s = start-before-struct-known c in
     let a = s.args in
-    (zero-le, s.requires.2, s.requires.3, absorbed_none a.shape a.public.now a.s.now a.start.first a.start.third)
+    (zero-le, s.requires.2, s.requires.3, absorbed_none a.set.shape a.public.now a.s.now a.start.first a.start.third)
 
-most : (i : tie.In-loop-e invariant-loop decreases-loop) → i.before.loop-e.e * ((start i.before).args.shape.m1 * (start i.before).args.shape.wide)
-    + (start i.before).args.shape.m1 * (start i.before).args.shape.wide ≤ 2460
+most : (i : tie.In-loop-e invariant-loop decreases-loop) → i.before.loop-e.e * ((start i.before).args.set.shape.m1 * (start i.before).args.set.shape.wide)
+    + (start i.before).args.set.shape.m1 * (start i.before).args.set.shape.wide ≤ 2460
 most i = first_most (start i.before).requires.0 (start i.before).requires.1 i.loop-e-test.true
 
 hidden-requires : tie.Need-hidden-requires invariant-loop decreases-loop
-hidden-requires c κs = let i = c in let p = (start i.before.before).requires in (p.0.valid, third_room p.0 p.1 i.loop-e-test.true)
+hidden-requires c κs = let i = c in let p = (start i.before.before).requires in (third_room p.0 p.1 i.loop-e-test.true)
 
 part-absorb-frame-end : tie.Need-slice_bounds-absorb_frame-end invariant-loop decreases-loop
 part-absorb-frame-end c = let i = c in let p = (start i.before.before.before).requires in first_room p.0 p.1 i.loop-e-test.true
 
 second-requires : tie.Need-second-requires invariant-loop decreases-loop
-second-requires c κs = let i = c in let p = (start i.before.before.before.before).requires in (p.0.valid, second_room p.0 p.1 i.loop-e-test.true)
+second-requires c κs = let i = c in let p = (start i.before.before.before.before).requires in (second_room p.0 p.1 i.loop-e-test.true)
 
 absorb-frame-requires : tie.Need-absorb_frame-u-requires invariant-loop decreases-loop
 absorb-frame-requires c κs =
@@ -72,7 +72,7 @@ absorb-frame-requires c κs =
     let p = (start k).requires in (
       given p.0 p.1 i.loop-e-test.true c.salt.ensures
           c.hidden.ensures
-          (row_cut k.loop-e.e (a.shape.m1 * a.shape.wide) a.firsts.now) c.second.ensures
+          (row_cut k.loop-e.e (a.set.shape.m1 * a.set.shape.wide) a.firsts.now) c.second.ensures
           c.frame.ensures,
       k.loop-e.invariant.1,
       k.loop-e.invariant.2,
@@ -95,14 +95,14 @@ loop-again c =
       x.absorb_frame-u.auto.commitments ∙ v.1,
       x.absorb_frame-u.auto.rows ∙ v.2,
       turn p.0 p.1 i.loop-e-test.true (salted x).salt.ensures x.hidden.ensures
-          (row_cut k.loop-e.e (a.shape.m1 * a.shape.wide) a.firsts.now) x.second.ensures
+          (row_cut k.loop-e.e (a.set.shape.m1 * a.set.shape.wide) a.firsts.now) x.second.ensures
           x.frame.ensures v.3 x.absorb_frame-u.ensures.0 x.absorb_frame-u.ensures.1.0,
     )
 
 returns : tie.Need-returns invariant-loop decreases-loop
 returns c =
     let k = c.before in
-    let e : k.loop-e.e ≡ (start k).args.shape.executions = le_antisymm k.loop-e.invariant.0 c.loop-e-test.false in
+    let e : k.loop-e.e ≡ (start k).args.set.shape.executions = le_antisymm k.loop-e.invariant.0 c.loop-e-test.false in
     (rw e at k.loop-e.invariant.3.first, rw e at k.loop-e.invariant.3.third)
 
 pub absorb_executions_spec : {M : Type 1} → statement M
@@ -111,5 +111,5 @@ absorb_executions_spec =
     (tie.spec invariant-loop decreases-loop mul-n loop-holds (λ c. in_word (begins _ (most c)) (lit≤ tt)) (λ c. in_word (most c) (lit≤ tt))
     (λ c κs. head_room (start c.before)) (λ c. search rules) hidden-requires (λ c. le-add_right _ _) (λ c. le-add_right _ _) part-absorb-frame-end
     second-requires
-    (λ c κs. (start c.before.before.before.before.before).requires.0.valid) absorb-frame-requires add-e (λ c. search rules) loop-again
+    (λ c κs. tt) absorb-frame-requires add-e (λ c. search rules) loop-again
     (λ c. c.loop-e.invariant.1 ∙ sym (start c.before).requires.2) (λ c. c.loop-e.invariant.2 ∙ sym (start c.before).requires.3) returns)

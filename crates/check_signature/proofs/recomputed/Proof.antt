@@ -35,15 +35,15 @@ start-before-struct-known2 c = c.before.before.before.before.before.before.befor
 
 module _ (s : tie.Start) where
   abbrev f : ℕ
-  f = s.args.shape.executions * first_challenge_length s.args.shape
+  f = s.args.set.shape.executions * first_challenge_length s.args.set.shape
 
   abbrev w : ℕ
-  w = s.args.shape.executions * s.args.shape.wide
+  w = s.args.set.shape.executions * s.args.set.shape.wide
 
   abbrev p : ℕ
-  p = s.args.shape.executions * 4
+  p = s.args.set.shape.executions * 4
 
-  columns : first_challenge_length s.args.shape ≤ 60
+  columns : first_challenge_length s.args.set.shape ≤ 60
   columns = columns_most s.requires.0.valid
 
   few_firsts : f ≤ 2460

@@ -9,23 +9,23 @@ use Rattle.circuit_shares.proofs.walk.Tie as tie
 
 own-requires : tie.Need-own-requires
 own-requires c κs =
-    (part_long c.requires.0 0 c.args.tape.now c.requires.4 c.tape_part.ensures, c.requires.2)
+    (part_long c.args.set.valid 0 c.args.tape.now c.requires.3 c.tape_part.ensures, c.requires.1)
 
 own-requires-2 : tie.Need-own-requires-2
 own-requires-2 c κs =
-    let v = c.requires.0 in
-    let long = part_long v 1 c.args.tape.now c.requires.4 c.tape_part-2.ensures in
-    (long ∙ sym c.requires.5, c.requires.3 ∙ sym c.requires.5)
+    let v = c.args.set.valid in
+    let long = part_long v 1 c.args.tape.now c.requires.3 c.tape_part-2.ensures in
+    (long ∙ sym c.requires.4, c.requires.2 ∙ sym c.requires.4)
 
 aes-circuit-requires : tie.Need-aes_circuit-requires
 aes-circuit-requires c κs =
-    let v = c.requires.0 in (
+    let v = c.args.set.valid in (
       one_small c.args.i c.one.ensures,
       (
         search rules,
         (
-          c.requires.1 ∙ v.plaintext,
-          (c.own-2.auto.out ∙ c.requires.5 ∙ sboxes_200 v, c.requires.6 ∙ sboxes_200 v),
+          c.requires.0 ∙ v.plaintext,
+          (c.own-2.auto.out ∙ c.requires.4 ∙ sboxes_200 v, c.requires.5 ∙ sboxes_200 v),
         ),
       ),
     )
@@ -33,7 +33,7 @@ aes-circuit-requires c κs =
 returns : tie.Need-returns
 returns c =
     let a = c.args in
-    walked c.requires.0 a.front.now a.key.now a.inverse.now a.tape.now a.i c.one.ensures c.tape_part.ensures
+    walked c.args.set.valid a.front.now a.key.now a.inverse.now a.tape.now a.i c.one.ensures c.tape_part.ensures
     c.own.ensures c.tape_part-2.ensures c.own-2.ensures c.aes_circuit.ensures.0 c.aes_circuit.ensures.1
 
 pub walk_spec : {M : Type 1} → statement M

@@ -19,8 +19,8 @@ module _ (c : tie.After-struct_known-1) where
   abbrev start : tie.Start
   start = c.before.before.before.before
 
-  few : start.args.shape.parties ≤ 128
-  few = start.requires.0.few
+  few : start.args.set.shape.parties ≤ 128
+  few = start.args.set.valid.few
 
 output-shares-requires : tie.Need-output_shares-requires
 output-shares-requires c κs =
@@ -29,11 +29,10 @@ output-shares-requires c κs =
     let l = (start k).args.offsets.now in
     let z : List ℕ = replicate 2048 0 in (
       p.0,
-      p.1,
-      front_long 16 l (omega (arith, p.2)),
-      cut_long 16 (length l) {n = sboxes (start k).args.shape} l (sym p.2) (omega arith),
-      p.3,
-      front_long ((start k).args.shape.parties * 16) z (omega (arith, few k)),
+      front_long 16 l (omega (arith, p.1)),
+      cut_long 16 (length l) {n = sboxes (start k).args.set.shape} l (sym p.1) (omega arith),
+      p.2,
+      front_long ((start k).args.set.shape.parties * 16) z (omega (arith, few k)),
     )
 
 returns : tie.Need-returns
@@ -42,10 +41,10 @@ returns c =
     let o = c.before.before.before.before.before.before.before.before.before.before in
     let b = start o in
     let s = b.args in
-    let size : length s.offsets.now - 16 ≡ sboxes s.shape = omega (arith, b.requires.2) in
-    let made = a.output_shares.ensures ∙ ap (λ n. rows (λ i. output_share (scheme_of s.shape)
-    (committed s.front.now (take 16 s.offsets.now) (part 16 n s.offsets.now)) i (row (total (tape_sizes s.shape)) i s.tapes.now))
-    s.shape.parties) size in
+    let size : length s.offsets.now - 16 ≡ sboxes s.set.shape = omega (arith, b.requires.1) in
+    let made = a.output_shares.ensures ∙ ap (λ n. rows (λ i. output_share (scheme_of s.set.shape)
+    (committed s.front.now (take 16 s.offsets.now) (part 16 n s.offsets.now)) i (row (total (tape_sizes s.set.shape)) i s.tapes.now))
+    s.set.shape.parties) size in
     two_pieces s.s s.offsets.now made a.absorb-b.ensures c.absorb.ensures
 
 pub absorb_shares_spec : {M : Type 1} → statement M
@@ -58,10 +57,10 @@ absorb_shares_spec =
     (λ c. omega (arith, few c))
     (λ c. omega arith)
     (λ c. omega arith)
-    (λ c. omega (arith, (start c.before).requires.2))
+    (λ c. omega (arith, (start c.before).requires.1))
     (λ c. omega arith)
     (λ c. omega arith)
-    (λ c. omega (arith, (start c.before.before).requires.2))
+    (λ c. omega (arith, (start c.before.before).requires.1))
     output-shares-requires
     (λ c κs. tt)
     (λ c κs. tt)

@@ -37,13 +37,13 @@ module _ (d : tie.After-draw_parties-t) where
   abbrev start : tie.Start
   start = d.before.before.before.before.before.before.before.before
 
-  tapes_long : length d.draw_parties-t.new.tapes ≡ start.args.shape.parties * total (tape_sizes start.args.shape)
-  tapes_long = d.draw_parties-t.auto.tapes ∙ start.requires.6
+  tapes_long : length d.draw_parties-t.new.tapes ≡ start.args.set.shape.parties * total (tape_sizes start.args.set.shape)
+  tapes_long = d.draw_parties-t.auto.tapes ∙ start.requires.5
 
 draw-parties-requires : tie.Need-draw_parties-t-requires
 draw-parties-requires c κs =
     let p = (start-before-draw-parties-arg c).requires in
-    (p.0, p.1, p.2, p.6)
+    (p.0, p.1, p.5)
 
 -- the length of a tape is known, and where the offsets begin
 module _ (m : tie.After-offset-k) where
@@ -64,19 +64,19 @@ module _ (m : tie.After-offset-k) where
 
   -- what the code has of the frame is there
   room : end ≤ length entry.args.frame.now
-  room = sum_room entry.requires.0 entry.args.frame.now entry.requires.5 m.offset-k.ensures.0 sized.tape_length-size.ensures.0
+  room = sum_room entry.args.set.valid entry.args.frame.now entry.requires.4 m.offset-k.ensures.0 sized.tape_length-size.ensures.0
 
   -- the witness is no longer than a tape
   within : length entry.args.witness.now ≤ sized.tape_length-size.result
-  within = omega (arith, entry.requires.4, sized.tape_length-size.ensures.0, tape_total entry.requires.0, all_sboxes entry.requires.0)
+  within = omega (arith, entry.requires.3, sized.tape_length-size.ensures.0, tape_total entry.args.set.valid, all_sboxes entry.args.set.valid)
 
 sum-rows-requires : tie.Need-sum_rows-requires
 sum-rows-requires c κs =
     let m = c.before in
     let s = entry m in (
-      s.requires.0.some,
-      tapes_long (drawn m) ∙ ap (s.args.shape.parties *◌)
-          (sym (sum_long s.requires.0 s.args.frame.now s.requires.5 m.offset-k.ensures.0 (sized m).tape_length-size.ensures.0)),
+      s.args.set.valid.some,
+      tapes_long (drawn m) ∙ ap (s.args.set.shape.parties *◌)
+          (sym (sum_long s.args.set.valid s.args.frame.now s.requires.4 m.offset-k.ensures.0 (sized m).tape_length-size.ensures.0)),
     )
 
 -- ---- their sum in the frame
@@ -110,7 +110,7 @@ absorb-shares-requires : tie.Need-absorb_shares-requires
 absorb-shares-requires c κs =
     let y = sum-rows-before-absorb-shares c in
     let p = (first y).requires in
-    (p.0, p.3, c.xor_into.auto.dst ∙ lent_long y ∙ p.4, tapes_long (drawn (measured y)))
+    (p.2, c.xor_into.auto.dst ∙ lent_long y ∙ p.3, tapes_long (drawn (measured y)))
 
 same_length : tie.Need-shape_of-frame
 same_length c =
@@ -126,18 +126,18 @@ returns c =
     let d = drawn m in
     let s = first y in
     let a = s.args in
-    let v = s.requires.0 in
+    let v = s.args.set.valid in
     let z = (sized m).tape_length-size.ensures.0 in
     let from = m.offset-k.ensures.0 in
     let t = d.draw_parties-t.new.tapes in
-    let own = own_made v a.witness.now a.salt.now a.root.now a.e s.requires.4 d.draw_parties-t.ensures.0 in (
-      offsets_made v a.frame.now s.requires.5 from z t a.witness.now s.requires.4 y.sum_rows.auto.out y.sum_rows.ensures
+    let own = own_made v a.witness.now a.salt.now a.root.now a.e s.requires.3 d.draw_parties-t.ensures.0 in (
+      offsets_made v a.frame.now s.requires.4 from z t a.witness.now s.requires.3 y.sum_rows.auto.out y.sum_rows.ensures
           x.xor_into.ensures
-          ∙ ap (put a.frame.now (offsets_at a.shape)) own,
-      part_made v a.witness.now a.salt.now a.root.now a.e s.requires.4 d.draw_parties-t.ensures.0 a.front.now a.s
-          (offsets_are v a.frame.now s.requires.5 from z t a.witness.now s.requires.4 y.sum_rows.auto.out y.sum_rows.ensures
+          ∙ ap (put a.frame.now (offsets_at a.set.shape)) own,
+      part_made v a.witness.now a.salt.now a.root.now a.e s.requires.3 d.draw_parties-t.ensures.0 a.front.now a.s
+          (offsets_are v a.frame.now s.requires.4 from z t a.witness.now s.requires.3 y.sum_rows.auto.out y.sum_rows.ensures
           x.xor_into.ensures
-          ∙ ap (take (witness_length a.shape)) own)
+          ∙ ap (take (witness_length a.set.shape)) own)
           d.draw_parties-t.ensures.1 c.absorb_shares.ensures,
     )
 
@@ -146,8 +146,8 @@ commit_frame_spec =
     tie.close
     (tie.spec
     draw-parties-requires
-    (λ c κs. (start-before-draw-parties-arg c.before.before.before).requires.0)
-    (λ c κs. ((start c.before.before.before).requires.0, lit< tt))
+    (λ c κs. tt)
+    (λ c κs. lit< tt)
     (λ m. omega (arith, within m, (sized m).tape_length-size.ensures.1, m.offset-k.ensures.1))
     (λ m. omega (arith, (sized m).tape_length-size.ensures.1, m.offset-k.ensures.1))
     (λ c. omega arith)

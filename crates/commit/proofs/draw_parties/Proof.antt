@@ -21,25 +21,25 @@ module _ (g : tie.After-leaf_seeds-seeds) where
   abbrev start : tie.Start
   start = g.before.before.before.before
 
-  few : start.args.shape.parties ≤ 128
-  few = start.requires.0.few
+  few : start.args.set.shape.parties ≤ 128
+  few = start.args.set.valid.few
 
-  seeded : start.args.shape.parties * 16 ≤ length g.leaf_seeds-seeds.result
+  seeded : start.args.set.shape.parties * 16 ≤ length g.leaf_seeds-seeds.result
   seeded =
-      seeds_room start.requires.0 start.args.salt.now start.args.root.now start.args.e start.requires.2 g.leaf_seeds-seeds.ensures
+      seeds_room start.args.set.valid start.args.salt.now start.args.root.now start.args.e start.requires.1 g.leaf_seeds-seeds.ensures
 
 hash-rows-requires : tie.Need-hash_rows-requires
 hash-rows-requires c κs =
     let g = c.before.before.before.before.before in
     let z : List ℕ = replicate 4096 0 in
-    ((start g).requires.1, omega (arith, few g), seeded g, front_long ((start g).args.shape.parties * 32) z (omega (arith, few g)))
+    ((start g).requires.0, omega (arith, few g), seeded g, front_long ((start g).args.set.shape.parties * 32) z (omega (arith, few g)))
 
 hash-rows-requires-2 : tie.Need-hash_rows-requires-2
 hash-rows-requires-2 c κs =
     let z = tape-length-before-hash-rows-arg2 c in
     let g = z.before.before in
     let p = (start g).requires in
-    (p.1, omega (arith, few g), seeded g, p.3 ∙ ap ((start g).args.shape.parties *◌) (sym z.tape_length-size.ensures.0))
+    (p.0, omega (arith, few g), seeded g, p.2 ∙ ap ((start g).args.set.shape.parties *◌) (sym z.tape_length-size.ensures.0))
 
 returns : tie.Need-returns
 returns c =
@@ -50,9 +50,9 @@ returns c =
     let s = start g in
     let a = s.args in
     let w = g.leaf_seeds-seeds.ensures in (
-      tapes_drawn s.requires.0 a.salt.now a.root.now a.e s.requires.2 w z.tape_length-size.ensures.0 t.hash_rows-2.ensures,
+      tapes_drawn s.args.set.valid a.salt.now a.root.now a.e s.requires.1 w z.tape_length-size.ensures.0 t.hash_rows-2.ensures,
       c.absorb.ensures
-          ∙ ap (absorbed a.s) (commitments_drawn s.requires.0 a.salt.now a.root.now a.e s.requires.2 w h.hash_rows.ensures),
+          ∙ ap (absorbed a.s) (commitments_drawn s.args.set.valid a.salt.now a.root.now a.e s.requires.1 w h.hash_rows.ensures),
     )
 
 pub draw_parties_spec : {M : Type 1} → statement M

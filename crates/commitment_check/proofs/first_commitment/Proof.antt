@@ -20,24 +20,24 @@ field-requires : tie.Need-field-requires
 field-requires c κs =
     let z = c.before in
     let s = start z in
-    transcript_fits s.requires.0 s.args.transcript.now z.transcript_sizes-sizes.ensures s.requires.1 _ (omega arith)
+    transcript_fits s.args.set.valid s.args.transcript.now z.transcript_sizes-sizes.ensures s.requires.0 _ (omega arith)
 
 hash-rows-requires : tie.Need-hash_rows-requires
 hash-rows-requires c κs =
     let f = c in
     let z = f.before.before.before in
     let s = start z in (
-      field_size s.args.shape s.args.transcript.now 0 z.transcript_sizes-sizes.ensures s.requires.1 f.field.ensures,
-      omega (arith, s.requires.0.few),
+      field_size s.args.set.shape s.args.transcript.now 0 z.transcript_sizes-sizes.ensures s.requires.0 f.field.ensures,
+      omega (arith, s.args.set.valid.few),
+      s.requires.2,
       s.requires.3,
-      s.requires.4,
     )
 
 field-requires-2 : tie.Need-field-stated-requires
 field-requires-2 c κs =
     let z = sized (hashed c) in
     let s = start z in
-    transcript_fits s.requires.0 s.args.transcript.now z.transcript_sizes-sizes.ensures s.requires.1 _ (omega arith)
+    transcript_fits s.args.set.valid s.args.transcript.now z.transcript_sizes-sizes.ensures s.requires.0 _ (omega arith)
 
 first-difference-requires : tie.Need-first_difference-requires
 first-difference-requires c κs =
@@ -45,8 +45,8 @@ first-difference-requires c κs =
     let h = hashed g.before in
     let z = sized h in
     let s = start z in (
-      h.hash_rows.auto.out ∙ s.requires.4,
-      field_size s.args.shape s.args.transcript.now 2 z.transcript_sizes-sizes.ensures s.requires.1 g.field-stated.ensures,
+      h.hash_rows.auto.out ∙ s.requires.3,
+      field_size s.args.set.shape s.args.transcript.now 2 z.transcript_sizes-sizes.ensures s.requires.0 g.field-stated.ensures,
     )
 
 returns : tie.Need-returns
@@ -56,9 +56,9 @@ returns c =
     let z = sized h in
     let s = start z in
     let f = h in (
-      differing s.args.shape s.args.transcript.now s.args.seeds.now s.args.e z.transcript_sizes-sizes.ensures f.field.ensures
+      differing s.args.set.shape s.args.transcript.now s.args.seeds.now s.args.e z.transcript_sizes-sizes.ensures f.field.ensures
           h.hash_rows.ensures s.args.hidden g.field-stated.ensures c.first_difference.ensures,
-      all_hashed s.args.shape s.args.transcript.now s.args.seeds.now s.args.e z.transcript_sizes-sizes.ensures f.field.ensures
+      all_hashed s.args.set.shape s.args.transcript.now s.args.seeds.now s.args.e z.transcript_sizes-sizes.ensures f.field.ensures
           h.hash_rows.ensures,
     )
 

@@ -14,9 +14,9 @@ loop-i-preserved c =
     let i = c.loop-i.i in
     let size = c.tape_length-size.ensures in
     -- the tape keeps its length
-    let long : length c.loop-i.tape ≡ total (tape_sizes a.shape) = c.loop-i.auto.tape ∙ front_long _ size.0 size.1 in
+    let long : length c.loop-i.tape ≡ total (tape_sizes a.set.shape) = c.loop-i.auto.tape ∙ front_long _ size.0 size.1 in
     stacking_lent c.loop-i.invariant (row_fits _ c.loop-i-test.true)
     (drawn_row c.requires.0.valid
-    (worked_row a.shape (committed a.front.now a.key.now a.inverse.now) a.product.now a.first.now a.far.now a.given a.tables.now a.last i)
+    (worked_row a.set.shape (committed a.front.now a.key.now a.inverse.now) a.product.now a.first.now a.far.now a.given a.tables.now a.last i)
     a.salt.now a.e i a.seeds.now c.party_row.ensures c.hash.ensures long)
     c.party_row.auto.out

@@ -26,12 +26,12 @@ module _ (c : tie.After-leaf_seeds-seeds) where
 
   -- the hidden party's seed
   seed_most : start.args.hidden * 16 + 16 ≤ 2048
-  seed_most = le_trans (row_fits 16 start.requires.3) (mul-le-mul_right 16 start.requires.0.few)
+  seed_most = le_trans (row_fits 16 start.requires.2) (mul-le-mul_right 16 start.args.set.valid.few)
 
   seed_fits : start.args.hidden * 16 + 16 ≤ length c.leaf_seeds-seeds.result
   seed_fits =
       let p = start.requires in
-      le_trans (row_fits 16 p.3) (seeds_room p.0 start.args.salt.now start.args.root.now start.args.e p.2 c.leaf_seeds-seeds.ensures)
+      le_trans (row_fits 16 p.2) (seeds_room start.args.set.valid start.args.salt.now start.args.root.now start.args.e p.1 c.leaf_seeds-seeds.ensures)
 
 -- once it is known where the sibling seeds end and where the commitment does
 module _ (c : tie.After-offset-k) where
@@ -44,11 +44,11 @@ module _ (c : tie.After-offset-k) where
   abbrev k : ℕ
   k = c.offset-k.result
 
-  ends : Ends (start leaved).args.shape d k
+  ends : Ends (start leaved).args.set.shape d k
   ends = record { siblings = c.offset-d.ensures.0; commitment = c.offset-k.ensures.0 }
 
   fits : k ≤ length (start leaved).args.frame.now
-  fits = within_frame ends (start leaved).requires.0 (start leaved).requires.4
+  fits = within_frame ends (start leaved).args.set.valid (start leaved).requires.3
 
 -- and once the sibling seeds are written
 module _ (c : tie.After-sibling_seeds) where
@@ -67,12 +67,12 @@ sibling-seeds-requires : tie.Need-sibling_seeds-requires
 sibling-seeds-requires c κs =
     let o = c.before in
     let p = (start (leaved o)).requires in
-    (p.1, p.2, siblings_long (ends o) _ (fits o), omega (arith, leaves_most p.0))
+    (p.0, p.1, siblings_long (ends o) _ (fits o), omega (arith, leaves_most (start (leaved o)).args.set.valid))
 
 hash-requires : tie.Need-hash-requires
 hash-requires c κs =
     let l = leaved (known c.before.before.before.before) in
-    ((start l).requires.1, row_long (start l).args.hidden 16 l.leaf_seeds-seeds.result (seed_fits l))
+    ((start l).requires.0, row_long (start l).args.hidden 16 l.leaf_seeds-seeds.result (seed_fits l))
 
 -- the frame is as long as it was
 same_length : tie.Need-shape_of-frame
@@ -91,17 +91,17 @@ returns c =
     let s = entry q in
     let p = s.requires in
     let a = s.args in
-    finished p.0 a.salt.now a.root.now a.e a.hidden a.frame.now p.2 p.3 p.4 (ends (known q))
+    finished s.args.set.valid a.salt.now a.root.now a.e a.hidden a.frame.now p.1 p.2 p.3 (ends (known q))
     (leaved (known q)).leaf_seeds-seeds.ensures q.sibling_seeds.ensures q.sibling_seeds.auto.out h.ensures
 
 pub finish_frame_spec : {M : Type 1} → statement M
 finish_frame_spec =
     tie.close
-    (tie.spec (λ c κs. let p = c.requires in (p.0, p.1, p.2))
-    (λ c κs. ((start c).requires.0, lit< tt)) (λ c κs. ((start c.before).requires.0, lit< tt))
+    (tie.spec (λ c κs. let p = c.requires in (p.0, p.1))
+    (λ c κs. lit< tt) (λ c κs. lit< tt)
     (λ c. in_word (begins 16 (seed_most (leaved c))) (lit≤ tt)) (λ c. in_word (seed_most (leaved c)) (lit≤ tt)) (λ c. zero-le)
     (λ c. zero-le) (λ c. le_trans (siblings_first (ends c)) (fits c)) sibling-seeds-requires
-    (λ c. let p = (entry c.before.before).requires in in_byte p.3 (le_trans p.0.few (lit≤ tt))) (λ c. le-add_right _ 16)
+    (λ c. let p = (entry c.before.before).requires in in_byte p.2 (le_trans (entry c.before.before).args.set.valid.few (lit≤ tt))) (λ c. le-add_right _ 16)
     (λ c. le-add_right _ 16) (λ c. seed_fits (leaved (known c.before.before)))
     (λ c. siblings_first (ends (known c.before.before.before))) (λ c. siblings_first (ends (known c.before.before.before)))
     (λ c. let q = c.before.before.before in as_long (fits (known q)) (same q)) hash-requires same_length returns)

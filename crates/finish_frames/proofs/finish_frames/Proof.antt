@@ -17,11 +17,11 @@ use Rattle.finish_frames.proofs.finish_frames.Statement.{statement}
 use Rattle.finish_frames.proofs.finish_frames.Tie as tie
 
 abbrev invariant-loop : tie.invariant-loop-e
-invariant-loop shape salt roots thirds frames₀ len n e₀ frames e =
-    (e ≤ n) × Reworking (finished_row shape salt roots thirds frames₀) len e (n * len) frames₀ frames
+invariant-loop set salt roots thirds frames₀ len n e₀ frames e =
+    (e ≤ n) × Reworking (finished_row set.shape salt roots thirds frames₀) len e (n * len) frames₀ frames
 
 abbrev decreases-loop : tie.decreases-loop-e
-decreases-loop shape salt roots thirds frames₀ len n e₀ frames e = n - e
+decreases-loop set salt roots thirds frames₀ len n e₀ frames e = n - e
 
 -- the bytes of a frame, as the code has them
 module _ (f : tie.After-frame_length-len invariant-loop decreases-loop) where
@@ -31,14 +31,14 @@ module _ (f : tie.After-frame_length-len invariant-loop decreases-loop) where
   abbrev len : ℕ
   len = f.frame_length-len.result
 
-  len_is : len ≡ total (frame_sizes start.args.shape)
+  len_is : len ≡ total (frame_sizes start.args.set.shape)
   len_is = f.frame_length-len.ensures.0
 
-  all_long : length start.args.frames.now ≡ start.args.shape.executions * len
-  all_long = start.requires.4 ∙ ap (λ n. start.args.shape.executions * n) (sym len_is)
+  all_long : length start.args.frames.now ≡ start.args.set.shape.executions * len
+  all_long = start.requires.3 ∙ ap (λ n. start.args.set.shape.executions * n) (sym len_is)
 
-  all_most : start.args.shape.executions * len ≤ 2 ^ 32
-  all_most = subst (λ n. start.args.shape.executions * n ≤ 2 ^ 32) (sym len_is) (le_trans (frames_most start.requires.0) (lit≤ tt))
+  all_most : start.args.set.shape.executions * len ≤ 2 ^ 32
+  all_most = subst (λ n. start.args.set.shape.executions * n ≤ 2 ^ 32) (sym len_is) (le_trans (frames_most start.args.set.valid) (lit≤ tt))
 
 -- frame e fits, and root e
 module _ (c : tie.In-loop-e invariant-loop decreases-loop) where
@@ -48,14 +48,14 @@ module _ (c : tie.In-loop-e invariant-loop decreases-loop) where
   abbrev measured : tie.After-frame_length-len invariant-loop decreases-loop
   measured = c.before.before
 
-  fits : c.before.loop-e.e * len measured + len measured ≤ entry.args.shape.executions * len measured
+  fits : c.before.loop-e.e * len measured + len measured ≤ entry.args.set.shape.executions * len measured
   fits = row_fits (len measured) c.loop-e-test.true
 
   root_fits : c.before.loop-e.e * 16 + 16 ≤ length entry.args.roots.now
-  root_fits = as_long (row_fits 16 c.loop-e-test.true) entry.requires.2
+  root_fits = as_long (row_fits 16 c.loop-e-test.true) entry.requires.1
 
   root_most : c.before.loop-e.e * 16 + 16 ≤ 656
-  root_most = le_trans (row_fits 16 c.loop-e-test.true) (mul-le-mul_right 16 entry.requires.0.brief)
+  root_most = le_trans (row_fits 16 c.loop-e-test.true) (mul-le-mul_right 16 entry.args.set.valid.brief)
 
 loop-holds : tie.Need-loop-e-init invariant-loop decreases-loop
 loop-holds c =
@@ -69,9 +69,8 @@ finish-frame-requires c κs =
     let f = k.before.before in
     let s = start f in
     let p = s.requires in
-    let party : h.hidden-hidden.result < s.args.shape.parties = rw h.hidden-hidden.ensures (hidden_lt p.0 _) in (
+    let party : h.hidden-hidden.result < s.args.set.shape.parties = rw h.hidden-hidden.ensures (hidden_lt s.args.set.valid _) in (
       p.0,
-      p.1,
       row_long k.loop-e.e 16 s.args.roots.now (root_fits i),
       party,
       row_long k.loop-e.e (len f) k.loop-e.frames (as_long (fits i) k.loop-e.invariant.1.done.long) ∙ len_is f,
@@ -88,7 +87,7 @@ loop-again c =
     let a = s.args in (
       next_most i.loop-e-test.true,
       reworking_lent k.loop-e.invariant.1 (fits i)
-          (finished_next a.shape a.salt.now a.roots.now a.thirds.now a.frames.now (len_is f) k.loop-e.invariant.1 h.hidden-hidden.ensures
+          (finished_next a.set.shape a.salt.now a.roots.now a.thirds.now a.frames.now (len_is f) k.loop-e.invariant.1 h.hidden-hidden.ensures
           x.finish_frame.ensures)
           x.finish_frame.auto.frame,
     )
@@ -99,18 +98,18 @@ same_length c = let k = c in k.loop-e.invariant.1.done.long ∙ sym (all_long k.
 returns : tie.Need-returns invariant-loop decreases-loop
 returns c =
     let k = c in
-    let e : k.loop-e.e ≡ (start k.before.before).args.shape.executions = omega arith in
+    let e : k.loop-e.e ≡ (start k.before.before).args.set.shape.executions = omega arith in
     reworking_all (rw e at k.loop-e.invariant.1) (le_refl _)
 
 pub finish_frames_spec : {M : Type 1} → statement M
 finish_frames_spec =
     tie.close
-    (tie.spec invariant-loop decreases-loop (λ c κs. c.requires.0) loop-holds
+    (tie.spec invariant-loop decreases-loop (λ c κs. tt) loop-holds
     (λ c. in_word (begins 16 (root_most c)) (lit≤ tt)) (λ c. in_word (root_most c) (lit≤ tt))
     (λ c. in_word (begins _ (fits c)) (all_most (measured c))) (λ c. in_word (fits c) (all_most (measured c)))
-    (λ c κs. let p = (entry c).requires in (p.0, as_long (row_fits 4 c.loop-e-test.true) p.3))
-    (λ c. in_byte c.loop-e-test.true (le_trans (entry c.before).requires.0.brief (lit≤ tt))) (λ c. le-add_right _ 16)
+    (λ c κs. let p = (entry c).requires in as_long (row_fits 4 c.loop-e-test.true) p.2)
+    (λ c. in_byte c.loop-e-test.true (le_trans (entry c.before).args.set.valid.brief (lit≤ tt))) (λ c. le-add_right _ 16)
     (λ c. le-add_right _ 16) (λ c. root_fits c.before) (λ c. le-add_right _ _) (λ c. le-add_right _ _)
     (λ c. let i = c.before.before in as_long (fits i) i.loop-e.invariant.1.done.long) finish-frame-requires
-    (λ c. let i = c.before.before.before.before.before.before in in_word (next_most i.loop-e-test.true) (le_trans (entry i).requires.0.brief (lit≤ tt)))
+    (λ c. let i = c.before.before.before.before.before.before in in_word (next_most i.loop-e-test.true) (le_trans (entry i).args.set.valid.brief (lit≤ tt)))
     (λ c. nearer c.loop-e-test.true) loop-again same_length returns)

@@ -20,14 +20,14 @@ absorb-column-requires : tie.Need-absorb_column-b-requires
 absorb-column-requires c κs =
     let r = c.before in
     let s = start r in
-    (s.requires.2 ∙ ap (λ (m : ℕ). s.args.shape.parties * m) (sym r.row_length-len.ensures.0), omega (arith, r.row_length-len.ensures.0))
+    (s.requires.1 ∙ ap (λ (m : ℕ). s.args.set.shape.parties * m) (sym r.row_length-len.ensures.0), omega (arith, r.row_length-len.ensures.0))
 
 returns : tie.Need-returns
 returns c =
     let x = c.before.before.before.before in
     let r = sized x in
     let a = (start r).args in
-    let column = ap (λ m. column_of a.shape.parties m 0 16 a.rows.now) r.row_length-len.ensures.0 in
+    let column = ap (λ m. column_of a.set.shape.parties m 0 16 a.rows.now) r.row_length-len.ensures.0 in
     let first = more a.s a.commitments.now _ x.absorb-a.ensures
     (x.absorb_column-b.ensures ∙ ap (absorbed x.absorb-a.result) column) in
     let second = more a.s _ _ first (c.absorb-c.ensures
@@ -37,6 +37,6 @@ returns c =
 pub absorb_first_spec : {M : Type 1} → statement M
 absorb_first_spec =
     tie.close
-    (tie.spec (λ c κs. c.requires.0) (λ c κs. tt) absorb-column-requires
-    (λ c κs. let p = (start (sized c)).requires in (p.0, lit< tt, p.1)) (λ c κs. tt)
-    (λ c κs. let p = (start (sized c.before.before)).requires in (p.0, lit< tt, p.1)) (λ c κs. tt) returns)
+    (tie.spec (λ c κs. tt) (λ c κs. tt) absorb-column-requires
+    (λ c κs. let p = (start (sized c)).requires in (lit< tt, p.0)) (λ c κs. tt)
+    (λ c κs. let p = (start (sized c.before.before)).requires in (lit< tt, p.0)) (λ c κs. tt) returns)

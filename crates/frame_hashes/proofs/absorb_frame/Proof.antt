@@ -23,21 +23,21 @@ module _ (f : tie.After-frame_rows) where
   abbrev s : tie.Start
   s = f.before.before.before.before.before.before.before.before.before
 
-  rows_long : length f.frame_rows.new.rows ≡ s.args.shape.parties * total (row_sizes s.args.shape)
+  rows_long : length f.frame_rows.new.rows ≡ s.args.set.shape.parties * total (row_sizes s.args.set.shape)
   rows_long = f.frame_rows.auto.rows ∙ s.requires.2
 
 absorb-first-requires : tie.Need-absorb_first-requires
-absorb-first-requires c κs = let f = c.before.before.before.before.before in ((s f).requires.0.valid, (s f).requires.0.frame_sized.size, rows_long f)
+absorb-first-requires c κs = let f = c.before.before.before.before.before in ((s f).requires.0.frame_sized.size, rows_long f)
 
 absorb-third-requires : tie.Need-absorb_third-requires
-absorb-third-requires c κs = let f = frame-rows-before-absorb-first c.before in ((s f).requires.0.valid, (s f).requires.0.frame_sized.size, rows_long f)
+absorb-third-requires c κs = let f = frame-rows-before-absorb-first c.before in ((s f).requires.0.frame_sized.size, rows_long f)
 
 returns : tie.Need-returns
 returns c =
     let f = frame-rows-before-absorb-third c in
     let a = (s f).args in
     let g = (s f).requires.0 in
-    let seed = seed_shown a.shape a.salt.now a.e a.hidden a.frame.now in
+    let seed = seed_shown a.set.shape a.salt.now a.e a.hidden a.frame.now in
     let made = f.frame_rows.ensures in (
       c.absorb_first.ensures ∙ ap (absorbed a.hashes.first) (first_bound g a.e seed made.0 made.1),
       (

@@ -38,7 +38,7 @@ module _ (z : tie.After-row_length-len) where
   at = length start.args.frame.now - (len - 16)
 
   abbrev cipher : List ℕ
-  cipher = ciphertext_of (scheme_of start.args.shape) start.args.public.now
+  cipher = ciphertext_of (scheme_of start.args.set.shape) start.args.public.now
 
   abbrev last : List ℕ
   last = take (length start.args.frame.now - at) (drop at start.args.frame.now)
@@ -50,22 +50,22 @@ module _ (z : tie.After-row_length-len) where
   least = omega (arith, z.row_length-len.ensures.0)
 
   most : len ≤ 142
-  most = omega (arith, row_most start.requires.0, z.row_length-len.ensures.0)
+  most = omega (arith, row_most start.args.set.valid, z.row_length-len.ensures.0)
 
   within : len - 16 ≤ length start.args.frame.now
-  within = omega (arith, start.requires.3, z.row_length-len.ensures.0)
+  within = omega (arith, start.requires.2, z.row_length-len.ensures.0)
 
   cipher_long : {c : List ℕ} → c ≡ cipher → length c ≡ 16
-  cipher_long = ciphertext_long start.args.shape start.args.public.now start.requires.1
+  cipher_long = ciphertext_long start.args.set.shape start.args.public.now start.requires.0
 
   last_long : length last ≡ len - 16
-  last_long = sums_long start.args.shape start.args.frame.now start.requires.3 z.row_length-len.ensures.0
+  last_long = sums_long start.args.set.shape start.args.frame.now start.requires.2 z.row_length-len.ensures.0
 
 -- ---- what is written after each call
 
 module _ (x : tie.After-copy_at) where
   abbrev begun : tie.After-row_length-len
-  begun = x.before.before.before
+  begun = x.before.before.before.before
 
   wrote1 : Wrote (zeros begun) ([] ++ cipher begun) (0 + 16) x.copy_at.new.dst
   wrote1 =
@@ -88,7 +88,7 @@ module _ (y : tie.After-copy_at-2) where
   room : len z ≤ length y.copy_at-2.new.dst
   room = omega (arith, most z, wrote2.long)
 
-  whole_long : length (take (len z - 0) y.copy_at-2.new.dst) ≡ total (row_sizes s.args.shape)
+  whole_long : length (take (len z - 0) y.copy_at-2.new.dst) ≡ total (row_sizes s.args.set.shape)
   whole_long = front_long (len z) y.copy_at-2.new.dst room ∙ z.row_length-len.ensures.0
 
 copy-at-requires-2 : tie.Need-copy_at-requires-2
@@ -102,8 +102,8 @@ complete-requires c κs =
     let y = c.before.before.before.before in
     let p = (s y).requires in
     let room : len (z y) ≤ length (zeros (z y)) = omega (arith, most (z y)) in (
-      p.2,
-      p.4 ∙ ap (λ (n : ℕ). (s y).args.shape.parties * n) (sym (whole_long y)),
+      p.1,
+      p.3 ∙ ap (λ (n : ℕ). (s y).args.set.shape.parties * n) (sym (whole_long y)),
       front_long (len (z y)) (zeros (z y)) room ∙ (z y).row_length-len.ensures.0 ∙ sym (whole_long y),
     )
 
@@ -113,14 +113,14 @@ returns c =
     let a = (s y).args in
     let p = (s y).requires in
     c.complete.ensures.0
-    ∙ ap₂ (λ (w : List ℕ) (n : ℕ). rows (completed_row a.shape.parties a.hidden w (λ i. row n i a.rows.now)) a.shape.parties)
-    (whole_written a.shape a.frame.now p.3 (z y).row_length-len.ensures.0 a.public.now (wrote2 y)) (whole_long y)
+    ∙ ap₂ (λ (w : List ℕ) (n : ℕ). rows (completed_row a.set.shape.parties a.hidden w (λ i. row n i a.rows.now)) a.set.shape.parties)
+    (whole_written a.set.shape a.frame.now p.2 (z y).row_length-len.ensures.0 a.public.now (wrote2 y)) (whole_long y)
 
 pub complete_rows_spec : {M : Type 1} → statement M
 complete_rows_spec =
     tie.close
-    (tie.spec (λ c κs. c.requires.0) least (λ c. refl) (λ c κs. (start c.before).requires.1)
-    (λ c κs. omega (arith, cipher_long c.before.before c.ciphertext.ensures)) (λ c. sym c.copy_at.auto.dst)
-    (λ c. within c.before.before.before.before.before) (λ c. rest_le _ _) (λ c. rest_le _ _) (λ c. le_refl _) copy-at-requires-2
+    (tie.spec (λ c κs. tt) least (λ c. refl) (λ c κs. (start c.before.before).requires.0)
+    (λ c κs. omega (arith, cipher_long c.before.before.before c.ciphertext.ensures)) (λ c. sym c.copy_at.auto.dst)
+    (λ c. within c.before.before.before.before.before.before) (λ c. rest_le _ _) (λ c. rest_le _ _) (λ c. le_refl _) copy-at-requires-2
     (λ c. zero-le) (λ c. zero-le) (λ c. room c.before) (λ c. zero-le) (λ c. zero-le) (λ c. omega (arith, most (z c.before.before)))
     complete-requires (λ c. c.complete.auto.rows) returns)

@@ -31,14 +31,14 @@ module _ (l : tie.After-leaf_bytes-end) where
   start = l.before.before.before.before.before.before.before
 
   -- what `frames::part` asks
-  asked : Valid start.args.shape × (length start.args.frame.now ≡ total (frame_sizes start.args.shape))
+  asked : Valid start.args.set.shape × (length start.args.frame.now ≡ total (frame_sizes start.args.set.shape))
   asked = (start.requires.0.valid, start.requires.0.frame_sized.size)
 
-  size : (k : ℕ) {f : List ℕ} → f ≡ frame_part (scheme_of start.args.shape) start.args.frame.now k
-      → length f ≡ get_or (frame_sizes start.args.shape) k 0
-  size k = part_long start.args.shape start.args.frame.now k start.requires.0.frame_sized.size
+  size : (k : ℕ) {f : List ℕ} → f ≡ frame_part (scheme_of start.args.set.shape) start.args.frame.now k
+      → length f ≡ get_or (frame_sizes start.args.set.shape) k 0
+  size k = part_long start.args.set.shape start.args.frame.now k start.requires.0.frame_sized.size
 
-  lent_long : length (take (l.leaf_bytes-end.result - 0) zeros) ≡ 16 * 2 ^ start.args.shape.depth
+  lent_long : length (take (l.leaf_bytes-end.result - 0) zeros) ≡ 16 * 2 ^ start.args.set.shape.depth
   lent_long =
       let room : l.leaf_bytes-end.result ≤ length zeros = omega (arith, l.leaf_bytes-end.ensures.1) in
       front_part l.leaf_bytes-end.result zeros room ∙ l.leaf_bytes-end.ensures.0
@@ -67,10 +67,10 @@ module _ (x : tie.After-expand_shown) where
   seeds_long : length seeds ≡ 2048
   seeds_long = same_len_mid 0 (begun.leaf_bytes-end.result - 0) zeros leaves x.expand_shown.auto.out
 
-  leaves_long : length leaves ≡ 16 * 2 ^ s.args.shape.depth
+  leaves_long : length leaves ≡ 16 * 2 ^ s.args.set.shape.depth
   leaves_long = x.expand_shown.auto.out ∙ lent_long begun
 
-  room : s.args.shape.parties * 16 ≤ length seeds
+  room : s.args.set.shape.parties * 16 ≤ length seeds
   room = omega (arith, seeds_long, s.requires.0.valid.few)
 
 hash-rows-requires : tie.Need-hash_rows-requires
@@ -88,7 +88,7 @@ abbrev hashed : tie.After-copy_at → tie.After-hash_rows
 hashed y = y.before.before.before.before.before
 
 abbrev copied : tie.After-share_rows → tie.After-copy_at
-copied r = r.before.before.before.before.before.before.before.before
+copied r = r.before.before.before.before.before.before.before.before.before
 
 -- what was there at the beginning
 abbrev entry : tie.After-copy_at → tie.Start
@@ -103,17 +103,16 @@ copy-at-requires c κs =
 
 -- where the parts of the frame are known
 abbrev given : tie.After-part-5 → tie.After-copy_at
-given f = f.before.before.before.before.before.before
+given f = f.before.before.before.before.before.before.before
 
 share-rows-requires : tie.Need-share_rows-requires
 share-rows-requires c κs =
     let f = c.before in
     let x = expanded (hashed (given f)) in
     let g = (s x).requires.0 in (
-      g.valid,
       g.salt_size,
       room x,
-      front_long (s x).args.shape (s x).args.public.now g.public_sized.size f.front.ensures,
+      front_long (s x).args.set.shape (s x).args.public.now g.public_sized.size f.front.ensures,
       size (begun x) 2 f.part-3.ensures,
       size (begun x) 3 f.part-4.ensures,
       g.first_sized.size,
@@ -130,7 +129,7 @@ complete-rows-requires : tie.Need-complete_rows-requires
 complete-rows-requires c κs =
     let r = c.before.before.before in
     let p = (entry (copied r)).requires in
-    let g = p.0 in (g.valid, g.public_sized.size, g.hidden_below, g.frame_sized.size, rows_kept r ∙ p.2)
+    let g = p.0 in (g.public_sized.size, g.hidden_below, g.frame_sized.size, rows_kept r ∙ p.2)
 
 -- the rows before they are completed
 abbrev shared : tie.After-complete_rows → tie.After-share_rows
@@ -158,14 +157,14 @@ returns c =
 pub frame_rows_spec : {M : Type 1} → statement M
 frame_rows_spec =
     tie.close
-    (tie.spec (λ c κs. c.requires.0.valid) (λ l κs. ((asked l).0, lit< tt, (asked l).1)) (λ c. zero-le)
+    (tie.spec (λ c κs. tt) (λ l κs. (lit< tt, (asked l).1)) (λ c. zero-le)
     (λ c. zero-le) (λ c. c.leaf_bytes-end.ensures.1) expand-shown-requires (λ c. sym (seeds_long c.before.before)) hash-rows-requires
     (λ c. let g = (s (expanded c.before.before.before)).requires.0 in omega (arith, g.hidden_below, g.valid.few))
-    (λ c κs. let l = begun (expanded c.before.before.before) in ((asked l).0, lit< tt, (asked l).1)) copy-at-requires
-    (λ c κs. (entry c.before.before).requires.0.public_sized.size)
-    (λ c κs. let l = begun (expanded (hashed c.before.before.before)) in ((asked l).0, lit< tt, (asked l).1))
-    (λ c κs. let l = begun (expanded (hashed c.before.before.before.before)) in ((asked l).0, lit< tt, (asked l).1))
-    (λ c κs. let l = begun (expanded (hashed c.before.before.before.before.before)) in ((asked l).0, lit< tt, (asked l).1)) share-rows-requires
+    (λ c κs. let l = begun (expanded c.before.before.before) in (lit< tt, (asked l).1)) copy-at-requires
+    (λ c κs. (entry c.before.before.before).requires.0.public_sized.size)
+    (λ c κs. let l = begun (expanded (hashed c.before.before.before.before)) in (lit< tt, (asked l).1))
+    (λ c κs. let l = begun (expanded (hashed c.before.before.before.before.before)) in (lit< tt, (asked l).1))
+    (λ c κs. let l = begun (expanded (hashed c.before.before.before.before.before.before)) in (lit< tt, (asked l).1)) share-rows-requires
     complete-rows-requires
     (λ c. let y = copied (shared c.before.before) in y.copy_at.auto.dst ∙ (hashed y).hash_rows.auto.out)
     (λ c. c.complete_rows.auto.rows ∙ rows_kept (shared c.before.before)) returns)

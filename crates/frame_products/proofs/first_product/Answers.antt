@@ -9,8 +9,8 @@ use Rattle.frame_products.proofs.first_product.Goals as goal
 pub returns : goal.returns
 returns c =
     let a = c.args in
-    let test = λ (e : ℕ). frame_holds (scheme_of a.shape) (frame_of (scheme_of a.shape) a.s.now e) in
-    found_lowest test a.shape.executions _
+    let test = λ (e : ℕ). frame_holds (scheme_of a.set.shape) (frame_of (scheme_of a.set.shape) a.s.now e) in
+    found_lowest test a.set.shape.executions _
     (first_from_Range _ _ _ _ (λ e. test e ≡ false) (λ e. test e ≡ true) c.find.ensures.ran
     (λ e q k. grind arith)
     (λ e q k. grind arith))

@@ -14,7 +14,7 @@ module _ (w : tie.After-signature_length) where
   abbrev start : tie.Start
   start = w.before.before.before
 
-  size_is : w.before.frame_length-size.result ≡ total (frame_sizes start.args.shape)
+  size_is : w.before.frame_length-size.result ≡ total (frame_sizes start.args.set.shape)
   size_is = w.frame_length-size.ensures.0
 
 returns : tie.Need-returns-then-s-signature_length
@@ -22,18 +22,18 @@ returns c =
     let t = c in
     let w = t.before.before in
     let s = start w in
-    of_another_length s.args.shape s.args.s.now s.args.e w.signature_length.ensures.0 (size_is w) t.if-s-signature_length.true
+    of_another_length s.args.set.shape s.args.s.now s.args.e w.signature_length.ensures.0 (size_is w) t.if-s-signature_length.true
 
-returns-2 : tie.Need-returns-then-e-shape
+returns-2 : tie.Need-returns-then-e-set
 returns-2 c =
     let t = c in
     let l = t in
     let w = l.before.before.before.before in
     let s = start w in
-    none_such s.args.shape s.args.s.now s.args.e w.signature_length.ensures.0 (size_is w) l.if-s-signature_length.false t.if-e-shape.true
+    none_such s.args.set.shape s.args.s.now s.args.e w.signature_length.ensures.0 (size_is w) l.if-s-signature_length.false t.if-e-set.true
 
 -- frame e ends within the signature
-module _ (c : tie.Else-e-shape) where
+module _ (c : tie.Else-e-set) where
   abbrev lengths : tie.Else-s-signature_length
   lengths = c.before.before
 
@@ -42,7 +42,7 @@ module _ (c : tie.Else-e-shape) where
   fits =
       let w = lengths.before in
       let s = start w in
-      ends_within s.args.shape s.args.s.now s.args.e w.signature_length.ensures.0 (size_is w) lengths.if-s-signature_length.false c.if-e-shape.false
+      ends_within s.args.set.shape s.args.s.now s.args.e w.signature_length.ensures.0 (size_is w) lengths.if-s-signature_length.false c.if-e-set.false
 
 returns-3 : tie.Need-returns
 returns-3 c =
@@ -50,7 +50,7 @@ returns-3 c =
     let l = lengths t in
     let w = l.before in
     let s = start w in
-    framed s.args.shape s.args.s.now s.args.e w.signature_length.ensures.0 (size_is w) l.if-s-signature_length.false t.if-e-shape.false
+    framed s.args.set.shape s.args.s.now s.args.e w.signature_length.ensures.0 (size_is w) l.if-s-signature_length.false t.if-e-set.false
 
 pub frame_spec : {M : Type 1} → statement M
 frame_spec =

@@ -14,9 +14,9 @@ pub frame_sizes_spec : {M : Type 1} → statement M
 frame_sizes_spec =
     tie.close
     (tie.spec
-    (λ c. omega (arith, columns_most c.requires))
+    (λ c. omega (arith, columns_most c.args.set.valid))
     (λ c. search rules)
-    (λ c. let v = c.requires in omega (arith, all_sboxes v, v.columns))
+    (λ c. let v = c.args.set.valid in omega (arith, all_sboxes v, v.columns))
     (λ c. search rules)
-    (λ c. let s = c in omega (arith, by_points s.requires s.args.shape.wide))
+    (λ c. let s = c in omega (arith, by_points s.args.set.valid s.args.set.shape.wide))
     returns)

@@ -11,12 +11,12 @@ offset-requires : tie.Need-offset-requires
 offset-requires c κs =
     let s = c in
     let e = c.frame_sizes.ensures in
-    (rw e (omega (arith, s.requires.1)), sizes_fit e (frame_most s.requires.0) (lit< tt))
+    (rw e (omega (arith, s.requires)), sizes_fit e (frame_most s.args.set.valid) (lit< tt))
 
 returns : tie.Need-returns
 returns c =
     let s = c in
-    offset_is c.frame_sizes.ensures (frame_most s.requires.0) s.args.k c.offset.ensures
+    offset_is c.frame_sizes.ensures (frame_most s.args.set.valid) s.args.k c.offset.ensures
 
 pub offset_spec : {M : Type 1} → statement M
 offset_spec = tie.close (tie.spec (λ c κs. search rules) (λ c. search rules) offset-requires returns)

@@ -10,7 +10,7 @@ use Rattle.frames.proofs.part.Tie as tie
 field-requires : tie.Need-field-requires
 field-requires c κs =
     let s = c in
-    rw c.frame_sizes-sizes.ensures (omega (arith, s.requires.1), omega (arith, s.requires.2), omega (arith, frame_most s.requires.0))
+    rw c.frame_sizes-sizes.ensures (omega (arith, s.requires.0), omega (arith, s.requires.1), omega (arith, frame_most s.args.set.valid))
 
 returns : tie.Need-returns
 returns c =

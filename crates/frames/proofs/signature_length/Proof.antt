@@ -14,11 +14,11 @@ module _ (f : tie.After-frame_length) where
   start = f.before
 
   -- all frames
-  frames : start.args.shape.executions * f.frame_length.result ≡ start.args.shape.executions * total (frame_sizes start.args.shape)
-  frames = ap (start.args.shape.executions *◌) f.frame_length.ensures.0
+  frames : start.args.set.shape.executions * f.frame_length.result ≡ start.args.set.shape.executions * total (frame_sizes start.args.set.shape)
+  frames = ap (start.args.set.shape.executions *◌) f.frame_length.ensures.0
 
-  most : start.args.shape.executions * f.frame_length.result ≤ 25092
-  most = rw frames (frames_most start.requires)
+  most : start.args.set.shape.executions * f.frame_length.result ≤ 25092
+  most = rw frames (frames_most start.args.set.valid)
 
 pub signature_length_spec : {M : Type 1} → statement M
 signature_length_spec =

@@ -7,13 +7,13 @@ use Rattle.leaf_seeds.proofs.leaf_seeds.Statement.{statement}
 use Rattle.leaf_seeds.proofs.leaf_seeds.Tie as tie
 
 part-seeds-end : tie.Need-slice_bounds-seeds-end
-part-seeds-end c = omega (arith, c.leaf_bytes-end.ensures.0, leaves_most c.requires.0)
+part-seeds-end c = omega (arith, c.leaf_bytes-end.ensures.0, leaves_most c.args.set.valid)
 
 expand-requires : tie.Need-expand-requires
 expand-requires c κs =
     let at_size = c in
     let p = at_size.requires in
-    (p.1, p.2, front_long _ at_size.leaf_bytes-end.ensures.0 (leaves_most p.0), omega (arith, leaves_most p.0))
+    (p.0, p.1, front_long _ at_size.leaf_bytes-end.ensures.0 (leaves_most at_size.args.set.valid), omega (arith, leaves_most at_size.args.set.valid))
 
 returns : tie.Need-returns
 returns c = zeros_behind 2048 c.leaf_bytes-end.ensures.0 c.expand.ensures

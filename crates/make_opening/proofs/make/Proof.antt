@@ -62,7 +62,7 @@ sized c = c.before.before.before.before
 seeds_fit : (c : tie.After-leaf_bytes-leaves) → c.leaf_bytes-leaves.result ≤ 2048
 seeds_fit c = c.leaf_bytes-leaves.ensures.1
 
-rows_fit : (c : tie.After-row_length) → (begun c).args.shape.parties * c.row_length.result ≤ work_length
+rows_fit : (c : tie.After-row_length) → (begun c).args.set.shape.parties * c.row_length.result ≤ work_length
 rows_fit c = le_trans (rows_most (begun c).requires.0.valid c.row_length.ensures.1) (lit≤ tt)
 
 opening_fits : (c : tie.After-opening_length-size) → c.opening_length-size.result ≤ length (begun (rowed c)).args.out.now
@@ -75,14 +75,14 @@ expand-requires c κs =
     (p.0.salt_size, p.0.root_size, front_long _ l.leaf_bytes-leaves.ensures.0 (seeds_fit l), few_nodes p.0.valid)
 
 -- the part that is lent for rows
-lent : (s : tie.Start) → length {A = ℕ} (take (21 * s.args.shape.m1 - 0) (replicate 210 0)) ≡ 21 * s.args.shape.m1
+lent : (s : tie.Start) → length {A = ℕ} (take (21 * s.args.set.shape.m1 - 0) (replicate 210 0)) ≡ 21 * s.args.set.shape.m1
 lent s = front_long (replicate 210 0) refl (columns_room s.requires.0.valid)
 
 true-rows-requires : tie.Need-true_rows-requires
 true-rows-requires c κs =
     let s = start (leaf-bytes-before-input-rows c.before.before.before.before) in
     let p = s.requires in
-    let v = p.0.valid in (v, inputs_long v p.2, inverses_long v s.args.key.now s.args.public.now p.2.inverses_is, lent s, lent s, refl)
+    let v = p.0.valid in (inputs_long v p.2, inverses_long v s.args.key.now s.args.public.now p.2.inverses_is, lent s, lent s, refl)
 
 make-shares-requires : tie.Need-make_shares-requires
 make-shares-requires c κs =
@@ -96,8 +96,8 @@ make-shares-requires c κs =
       p.1,
       at_points v p.2 t.0 t.1.0 t.1.1,
       (expand-before-true-rows at_true_rows).expand.ensures,
-      front_long _ (sym (by_points v s.args.shape.wide)) (points_room v),
-      front_long _ (ap (λ n. s.args.shape.parties * n) r.row_length.ensures.0) (le_trans (rows_fit r) p.4),
+      front_long _ (sym (by_points v s.args.set.shape.wide)) (points_room v),
+      front_long _ (ap (λ n. s.args.set.shape.parties * n) r.row_length.ensures.0) (le_trans (rows_fit r) p.4),
       front_long _ (sized c).opening_length-size.ensures.0 (opening_fits (sized c)),
     )
 
@@ -111,7 +111,7 @@ returns c =
     let m = done.make_shares in
     let long = m.auto.out ∙ front_long d size.ensures.0 (opening_fits z) in (
       front_output size.result d m.ensures (long ∙ sym size.ensures.0),
-      scratch_front (s.args.shape.parties * (rowed z).row_length.result) s.args.work.now
+      scratch_front (s.args.set.shape.parties * (rowed z).row_length.result) s.args.work.now
           m.new.rows (rows_fit (rowed z)) s.requires.4
           m.auto.rows,
     )
@@ -129,20 +129,20 @@ work-kept c =
     let done = make-shares-before-slice-known7 c in
     let r = rowed (sized done.before) in
     let s = begun r in
-    same_len_mid 0 (s.args.shape.parties * r.row_length.result - 0) s.args.work.now
+    same_len_mid 0 (s.args.set.shape.parties * r.row_length.result - 0) s.args.work.now
     done.make_shares.new.rows
     done.make_shares.auto.rows
 
 pub make_spec : {M : Type 1} → statement M
 make_spec =
     tie.close
-    (tie.spec (λ c κs. (start-before-slice-known2 c).requires.0.valid) (λ c. zero-le) (λ c. zero-le) seeds_fit expand-requires
+    (tie.spec (λ c κs. tt) (λ c. zero-le) (λ c. zero-le) seeds_fit expand-requires
     (λ c. in_word (columns_room (start c.before.before.before.before.before.before).requires.0.valid) (lit≤ tt)) (λ c. zero-le) (λ c. zero-le)
     (λ c. columns_room (start c.before.before.before.before.before.before).requires.0.valid) (λ c. zero-le) (λ c. zero-le)
     (λ c. columns_room (start (leaf-bytes-before-input-rows c)).requires.0.valid) (λ c. refl)
     true-rows-requires (λ c. in_word (points_room (start (leaved c.before.before.before.before.before.before)).requires.0.valid) (lit≤ tt))
-    (λ c κs. (start (leaved c.before.before.before.before.before.before)).requires.0.valid) (λ c. in_word (rows_fit c.before) (lit≤ tt))
-    (λ c κs. (begun c.before).requires.0.valid)
+    (λ c κs. tt) (λ c. in_word (rows_fit c.before) (lit≤ tt))
+    (λ c κs. tt)
     (λ c. sym (true-rows-before-lasts3 c).true_rows.auto.lasts)
     (λ c. zero-le) (λ c. zero-le) (λ c. points_room (start (leaved (true-rows-before-lasts3 c))).requires.0.valid) (λ c. zero-le) (λ c. zero-le)
     (λ c. let r = rowed c.before.before in le_trans (rows_fit r) (begun r).requires.4) (λ c. zero-le)

@@ -24,20 +24,20 @@ abbrev start : tie.After-offsets → tie.Start
 start c = c.before.before.before.before.before.before.before.before.before.before.before.before.before.before.before.before.before.before
 
 abbrev offset : tie.After-share_rows-arg-1 → tie.After-offsets
-offset c = c.before.before.before.before.before.before.before.before
+offset c = c.before.before.before.before.before.before.before.before.before
 
 abbrev shared : tie.After-write-arg-1 → tie.After-share_rows
 shared c = c.before.before.before
 
 -- the seeds of all parties are there
-long : (s : tie.Start) → s.args.shape.parties * 16 ≤ length s.args.seeds.now
+long : (s : tie.Start) → s.args.set.shape.parties * 16 ≤ length s.args.seeds.now
 long s = seeds_long s.requires.0.valid s.args.salt.now s.args.root.now s.args.e s.requires.0.root_size s.requires.3
 
 -- the inverses are as many as the S-boxes, and so long is the part that is lent for their offsets
-inverses : (s : tie.Start) → length s.args.inverses.now ≡ sboxes s.args.shape
+inverses : (s : tie.Start) → length s.args.inverses.now ≡ sboxes s.args.set.shape
 inverses s = inverses_long s.requires.0.valid s.args.key.now s.args.public.now s.requires.2.inverses_is
 
-lent : (s : tie.Start) → length {A = ℕ} (take (length s.args.inverses.now - 0) (replicate 200 0)) ≡ sboxes s.args.shape
+lent : (s : tie.Start) → length {A = ℕ} (take (length s.args.inverses.now - 0) (replicate 200 0)) ≡ sboxes s.args.set.shape
 lent s = part_long (replicate 200 0) (inverses s) (inverses_room s.requires.0.valid (inverses s))
 
 offsets-requires : tie.Need-offsets-requires
@@ -61,10 +61,9 @@ share-rows-requires c κs =
     let s = start (offset c) in
     let p = s.requires in
     let k = (offset c).offsets.auto in (
-      p.0.valid,
       p.0.salt_size,
       long s,
-      front_long s.args.shape s.args.public.now p.0.public_size c.front.ensures,
+      front_long s.args.set.shape s.args.public.now p.0.public_size c.front.ensures,
       k.offset,
       k.inverse ∙ lent s,
       p.0.first_size,
@@ -80,7 +79,6 @@ write-requires c κs =
     let p = s.requires in
     let v = p.0.valid in
     let k = at_offsets.offsets.auto in (
-      v,
       p.0.salt_size,
       p.0.root_size,
       party_byte v p.1.hidden_shown,
@@ -111,7 +109,7 @@ make_shares_spec =
     tie.close
     (tie.spec (λ c. zero-le) (λ c. zero-le) (λ c. let s = start-before-slice-known3 c in inverses_room s.requires.0.valid (inverses s))
     (λ c. refl) offsets-requires (λ c. sym c.offsets.auto.offset)
-    (λ c κs. (start (offsets-before-front c)).requires.0.public_size) share-rows-requires write-requires
+    (λ c κs. (start (offsets-before-front c.before)).requires.0.public_size) share-rows-requires write-requires
     (λ c. (offset (shared c.before.before.before.before).before).offsets.auto.product)
     (λ c. (shared c.before.before.before.before).share_rows.auto.out)
     (λ c. c.write.auto.out) returns)

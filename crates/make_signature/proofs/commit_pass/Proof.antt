@@ -25,7 +25,7 @@ abbrev salt-known-before-copy-at2 : tie.After-copy_at-2 → tie.After-shared_sli
 salt-known-before-copy-at2 c = c.before.before.before.before.before.before.before.before.before.before.before.before
 
 abbrev copy-at2-before-commit-frames-arg2 : tie.After-commit_frames-arg-2-1 → tie.After-copy_at-2
-copy-at2-before-commit-frames-arg2 c = c.before.before.before.before.before.before
+copy-at2-before-commit-frames-arg2 c = c.before.before.before.before.before.before.before
 
 abbrev commit-frames-before-h2 : tie.After-h-2-1 → tie.After-commit_frames-t
 commit-frames-before-h2 c = c.before.before.before.before.before.before.before.before
@@ -40,9 +40,9 @@ abbrev start-before-slice-known4 : tie.After-slice_known-4-1 → tie.Start
 start-before-slice-known4 c = start-before-slice-known2 (tape-length-before-copy-at-arg2 c.before.before.before).before
 
 abbrev tape-length-before-commit-frames-arg : tie.After-commit_frames-arg-1 → tie.After-tape_length
-tape-length-before-commit-frames-arg c = c.before.before.before.before.before.before.before.before.before.before.before.before.before
+tape-length-before-commit-frames-arg c = c.before.before.before.before.before.before.before.before.before.before.before.before.before.before
 
-valid : (s : tie.Start) → Valid s.args.shape
+valid : (s : tie.Start) → Valid s.args.set.shape
 valid s = s.requires.0.valid
 
 -- ---- the key, and the inverses behind it
@@ -55,7 +55,7 @@ module _ (m : tie.After-tape_length) where
   abbrev zeros : List ℕ
   zeros = take (16 + length start.args.inverses.now - 0) (replicate 216 0)
 
-  all_in : 16 + length start.args.inverses.now ≡ witness_length start.args.shape
+  all_in : 16 + length start.args.inverses.now ≡ witness_length start.args.set.shape
   all_in = ap (16 +◌) start.requires.2
 
   room : 16 + length start.args.inverses.now ≤ 216
@@ -74,7 +74,7 @@ module _ (w : tie.After-copy_at-2) where
   abbrev witness : List ℕ
   witness = w.copy_at-2.new.dst
 
-  witness_long : length witness ≡ witness_length begun.args.shape
+  witness_long : length witness ≡ witness_length begun.args.set.shape
   witness_long = w.copy_at-2.auto.dst ∙ w.copy_at.auto.dst ∙ zeros_long measured ∙ all_in measured
 
   witness_is : witness ≡ begun.args.key.now ++ begun.args.inverses.now
@@ -88,10 +88,9 @@ commit-frames-requires c κs =
     let m = measured w in
     let s = start m in
     let p = s.requires in (
-      valid s,
       p.4,
       p.5,
-      front_long s.args.shape s.args.public.now p.3 c.front.ensures,
+      front_long s.args.set.shape s.args.public.now p.3 c.front.ensures,
       witness_long w,
       p.0.frames_size,
       parties_lent (valid s) m.tape_length.ensures.0 m.tape_length.ensures.1 s.args.work.now p.6,
@@ -101,14 +100,14 @@ commit-frames-requires c κs =
 
 module _ (x : tie.After-commit_frames-t) where
   abbrev joined : tie.After-copy_at-2
-  joined = x.before.before.before.before.before.before.before
+  joined = x.before.before.before.before.before.before.before.before
 
   abbrev entry : tie.Start
   entry = begun joined
 
   -- the front of the work slice
   abbrev lent : ℕ
-  lent = entry.args.shape.parties * (measured joined).tape_length.result
+  lent = entry.args.set.shape.parties * (measured joined).tape_length.result
 
 returns : tie.Need-returns
 returns c =
@@ -120,7 +119,7 @@ returns c =
     let known = salt-known-before-copy-at2 w in
     let front_is = x.front.ensures in (
       c.output.ensures
-          ∙ first_hashed (valid s) (witness_is w) (front_of (scheme_of a.shape) a.public.now) a.roots.now front_is
+          ∙ first_hashed (valid s) (witness_is w) (front_of (scheme_of a.set.shape) a.public.now) a.roots.now front_is
           (bytes_of known.shared_slice_known-3-1.given)
           (bytes_of known.shared_slice_known-4-1.given) (bytes_of known.shared_slice_known-5-1.given)
           (append_bytes {xs = a.key.now} {ys = a.inverses.now} (bytes_of known.shared_slice_known-1.given)
@@ -137,7 +136,7 @@ pub commit_pass_spec : {M : Type 1} → statement M
 commit_pass_spec =
     tie.close
     (tie.spec
-    (λ c κs. valid (start-before-slice-known2 c))
+    (λ c κs. tt)
     (λ c. let m = c.before in omega (arith, tapes_most (valid (start m)) m.tape_length.ensures.1))
     (λ c. omega (arith, room c.before))
     (λ c. omega arith)
@@ -146,7 +145,7 @@ commit_pass_spec =
     (λ c κs. let m = c.before.before.before in omega (arith, zeros_long m, (start m).requires.1))
     (λ c κs. omega (arith, c.copy_at.auto.dst, zeros_long (tape-length-before-copy-at-arg2 c)))
     (λ c κs. tt)
-    (λ c κs. (start-before-slice-known4 c.before).requires.3)
+    (λ c κs. (start-before-slice-known4 c.before.before).requires.3)
     (λ c. omega arith)
     (λ c. omega arith)
     (λ c. let m = tape-length-before-commit-frames-arg c in omega (arith, tapes_most (valid (start m)) m.tape_length.ensures.1, (start m).requires.6))

@@ -22,7 +22,7 @@ module _ (d : tie.After-draw) where
   start = d.before.before.before.before.before.before.before.before
 
   abbrev size : ℕ
-  size = start.args.shape.executions * 4
+  size = start.args.set.shape.executions * 4
 
   asked : length (take (size - 0) zeros) ≡ size
   asked = front_long size zeros (omega (arith, start.requires.0.valid.brief))
@@ -34,7 +34,7 @@ finish-frames-requires : tie.Need-finish_frames-requires
 finish-frames-requires c κs =
     let d = c.before.before.before in
     let p = (start d).requires in
-    (p.0.valid, p.1, p.2, d.draw.auto.out ∙ asked d, p.0.frames_size)
+    (p.1, p.2, d.draw.auto.out ∙ asked d, p.0.frames_size)
 
 returns : tie.Need-returns
 returns c =

@@ -37,12 +37,12 @@ module _ (s : tie.Start) where
   abbrev lent : List ℕ
   lent = take (length s.args.out.now - head_length) (drop head_length s.args.out.now)
 
-  lent_size : length lent ≡ s.args.shape.executions * total (frame_sizes s.args.shape)
+  lent_size : length lent ≡ s.args.set.shape.executions * total (frame_sizes s.args.set.shape)
   lent_size =
       length-take-le (length s.args.out.now - head_length) (drop head_length s.args.out.now) (omega (arith, length-drop head_length s.args.out.now))
       ∙ omega (arith, s.requires.1)
 
-  witness : Witness s.args.shape s.args.key.now s.args.public.now s.args.inputs.now s.args.inverses.now
+  witness : Witness s.args.set.shape s.args.key.now s.args.public.now s.args.inputs.now s.args.inverses.now
       (s.args.key.now ++ s.args.inverses.now)
   witness =
       let g = s.requires.0 in
@@ -107,7 +107,7 @@ module _ (x : tie.After-answer_passes-h3) where
   h3_size : length x.answer_passes-h3.result ≡ 32
   h3_size = search rules
 
-  passes : Passes entry.args.shape entry.args.public.now entry.args.message.now entry.args.salt.now entry.args.roots.now
+  passes : Passes entry.args.set.shape entry.args.public.now entry.args.message.now entry.args.salt.now entry.args.roots.now
       entry.args.inputs.now entry.args.inverses.now (entry.args.key.now ++ entry.args.inverses.now) (lent entry)
       begun.commit_pass-h1.result begun.commit_pass-h1.new.frames x.answer_passes-h3.result frames
   passes = record {
@@ -133,7 +133,7 @@ returns c =
       w.write.ensures
           ∙ ap (layout (a.salt.now ∷ (begun x).commit_pass-h1.result ∷ x.answer_passes-h3.result ∷ []) ++◌)
           (frames_behind (out x) (frames x) (entry x).requires.1 (frames_kept x ∙ lent_size (entry x)))
-          ∙ signature_is a.shape a.key.now a.public.now a.message.now a.salt.now a.roots.now
+          ∙ signature_is a.set.shape a.key.now a.public.now a.message.now a.salt.now a.roots.now
           (first_made g.valid (witness (entry x)) (passes x)) (third_made g.valid (witness (entry x)) (passes x))
           (frames_made g.valid (witness (entry x)) (passes x)),
       scratch_then (begun x).commit_pass-h1.ensures.1.1 x.answer_passes-h3.ensures.1,

@@ -37,20 +37,20 @@ true-rows-before-slice-known6 c = c.before.before.before.before.before.before.be
 abbrev frame-length-before-h2 : tie.After-h-2-1 → tie.After-frame_length-len
 frame-length-before-h2 c = c.before.before.before.before.before.before.before
 
-valid : (s : tie.Start) → Valid s.args.shape
+valid : (s : tie.Start) → Valid s.args.set.shape
 valid s = s.requires.0.valid
 
 abbrev start : tie.After-true_rows → tie.Start
 start t = t.before.before.before.before.before.before.before.before.before.before.before.before.before.before.before.before
 
 -- the part of an array of rows that is lent
-lent : (s : tie.Start) → length {A = ℕ} (take (21 * s.args.shape.m1 - 0) (replicate 210 0)) ≡ 21 * s.args.shape.m1
-lent s = let array : List ℕ = replicate 210 0 in front_long (21 * s.args.shape.m1) array (omega (arith, (valid s).columns))
+lent : (s : tie.Start) → length {A = ℕ} (take (21 * s.args.set.shape.m1 - 0) (replicate 210 0)) ≡ 21 * s.args.set.shape.m1
+lent s = let array : List ℕ = replicate 210 0 in front_long (21 * s.args.set.shape.m1) array (omega (arith, (valid s).columns))
 
 true-rows-requires : tie.Need-true_rows-requires
 true-rows-requires c κs =
     let s = start-before-struct-known c.before.before.before.before.before in
-    (valid s, s.requires.1, s.requires.2, lent s, lent s, refl)
+    (s.requires.1, s.requires.2, lent s, lent s, refl)
 
 offset-frames-requires : tie.Need-offset_frames-requires
 offset-frames-requires c κs =
@@ -79,13 +79,13 @@ module _ (f : tie.After-frame_length-len) where
   abbrev entry : tie.Start
   entry = start rows_made
 
-  frames_size : length made.offset_frames.new.frames ≡ entry.args.shape.executions * f.frame_length-len.result
+  frames_size : length made.offset_frames.new.frames ≡ entry.args.set.shape.executions * f.frame_length-len.result
   frames_size = made.offset_frames.auto.frames ∙ entry.requires.0.frames_size
-      ∙ ap (entry.args.shape.executions *◌) (sym f.frame_length-len.ensures.0)
+      ∙ ap (entry.args.set.shape.executions *◌) (sym f.frame_length-len.ensures.0)
 
 -- the product offsets stand behind the others
 behind : (o : tie.After-offset-p)
-    → o.offset-p.result ≡ offsets_at (entry o.before).args.shape + witness_length (entry o.before).args.shape
+    → o.offset-p.result ≡ offsets_at (entry o.before).args.set.shape + witness_length (entry o.before).args.set.shape
 behind o = o.offset-p.ensures.0 ∙ omega arith
 
 absorb-column-requires : tie.Need-absorb_column-t-requires
@@ -133,8 +133,8 @@ offset_pass_spec =
     true-rows-requires
     (λ c. sym (true-rows-before-lasts3 c).true_rows.auto.lasts)
     offset-frames-requires
-    (λ c κs. valid (start (true-rows-before-slice-known6 c)))
-    (λ f κs. (valid (entry f), lit< tt))
+    (λ c κs. tt)
+    (λ f κs. lit< tt)
     (λ o κs. tt)
     (λ c. omega (arith, (valid (entry c.before.before.before)).wide_most))
     absorb-column-requires

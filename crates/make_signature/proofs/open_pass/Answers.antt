@@ -18,12 +18,12 @@ use Rattle.make_signature.proofs.open_pass.Goals as goal
 pub returns : goal.returns
 returns c =
     let a = c.args in
-    let v : Valid a.shape = c.requires.0.valid in
-    let size : ℕ = a.shape.executions * a.shape.wide in
+    let v : Valid a.set.shape = c.requires.0.valid in
+    let size : ℕ = a.set.shape.executions * a.set.shape.wide in
     let drawn : c.draw.new.out ≡ shake128 (7 ∷ a.h2.now) size =
     c.draw.ensures ∙ ap (shake128 (7 ∷ a.h2.now)) (part_long size (replicate 246 0) (omega (arith, seconds_most v))) in
-    let front = front_of (scheme_of a.shape) a.public.now in
-    let lent : ℕ = a.shape.parties * c.row_length.result in
+    let front = front_of (scheme_of a.set.shape) a.public.now in
+    let lent : ℕ = a.set.shape.parties * c.row_length.result in
     record {
       value = c.output.ensures
           ∙ third_hashed v a.h2.now drawn front a.salt.now a.roots.now a.firsts.now a.frames.now c.front.ensures

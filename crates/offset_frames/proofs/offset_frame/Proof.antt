@@ -29,7 +29,7 @@ zeros = replicate 126 0
 
 module _ (s : tie.Start) where
   abbrev size : ℕ
-  size = 21 * s.args.shape.wide
+  size = 21 * s.args.set.shape.wide
 
   few : size ≤ length zeros
   few = omega (arith, s.requires.0.valid.wide_most)
@@ -42,10 +42,10 @@ module _ (m : tie.After-offset-p) where
   abbrev start : tie.Start
   start = sized.before.before.before.before.before.before
 
-  from : m.before.offset-k.result ≡ offsets_at start.args.shape
+  from : m.before.offset-k.result ≡ offsets_at start.args.set.shape
   from = m.offset-k.ensures.0
 
-  behind : m.offset-p.result ≡ offsets_at start.args.shape + witness_length start.args.shape
+  behind : m.offset-p.result ≡ offsets_at start.args.set.shape + witness_length start.args.set.shape
   behind = m.offset-p.ensures.0 ∙ omega arith
 
 product-offsets-requires : tie.Need-product_offsets-requires
@@ -55,7 +55,7 @@ product-offsets-requires c κs =
       s.requires.0,
       sum_long s.requires.0.valid s.args.frame.now s.requires.2 (from m) (sized m).tape_length-size.ensures.0,
       s.requires.1,
-      front_long (size s) zeros (few s) ∙ sym (by_points s.requires.0.valid s.args.shape.wide),
+      front_long (size s) zeros (few s) ∙ sym (by_points s.requires.0.valid s.args.set.shape.wide),
     )
 
 -- ---- what it leaves
@@ -81,16 +81,16 @@ returns c =
     let x = product-offsets-before-slice-known3 c in
     let a = (entry x).args in
     let m = measured x in
-    offset_made a.shape a.frame.now (from m) (behind m) (sized m).tape_length-size.ensures.0 a.us.now a.vs.now a.lasts.now a.first.now
+    offset_made a.set.shape a.frame.now (from m) (behind m) (sized m).tape_length-size.ensures.0 a.us.now a.vs.now a.lasts.now a.first.now
     x.product_offsets.ensures c.copy_at.ensures
 
 pub offset_frame_spec : {M : Type 1} → statement M
 offset_frame_spec =
     tie.close
     (tie.spec
-    (λ c κs. c.requires.0.valid)
-    (λ c κs. (c.requires.0.valid, lit< tt))
-    (λ c κs. ((start-before-offset c).requires.0.valid, lit< tt))
+    (λ c κs. tt)
+    (λ c κs. lit< tt)
+    (λ c κs. lit< tt)
     (λ m. omega (arith, m.offset-k.ensures.1, (sized m).tape_length-size.ensures.1))
     (λ c. omega (arith, (start c.before).requires.0.valid.wide_most))
     (λ c. omega arith)

@@ -17,25 +17,25 @@ use Rattle.offset_frames.proofs.offset_frames.Statement.{statement}
 use Rattle.offset_frames.proofs.offset_frames.Tie as tie
 
 abbrev invariant-loop : tie.invariant-loop-e
-invariant-loop shape us vs lasts firsts frames₀ len m n e₀ frames e =
+invariant-loop set us vs lasts firsts frames₀ len m n e₀ frames e =
     (e ≤ n)
-    × Reworking (λ e. offset_frame shape us vs lasts (row (first_challenge_length shape) e firsts) (row (total (frame_sizes shape)) e frames₀))
+    × Reworking (λ e. offset_frame set.shape us vs lasts (row (first_challenge_length set.shape) e firsts) (row (total (frame_sizes set.shape)) e frames₀))
     len e (n * len) frames₀ frames
 
 abbrev decreases-loop : tie.decreases-loop-e
-decreases-loop shape us vs lasts firsts frames₀ len m n e₀ frames e = n - e
+decreases-loop set us vs lasts firsts frames₀ len m n e₀ frames e = n - e
 
 module _ (f : tie.After-frame_length-len invariant-loop decreases-loop) where
   abbrev start : tie.Start invariant-loop decreases-loop
   start = f.before.before.before.before.before.before
 
   abbrev n : ℕ
-  n = start.args.shape.executions
+  n = start.args.set.shape.executions
 
   abbrev len : ℕ
   len = f.frame_length-len.result
 
-  size : len ≡ total (frame_sizes start.args.shape)
+  size : len ≡ total (frame_sizes start.args.set.shape)
   size = f.frame_length-len.ensures.0
 
   whole : length start.args.frames.now ≡ n * len
@@ -45,7 +45,7 @@ module _ (f : tie.After-frame_length-len invariant-loop decreases-loop) where
   bound = subst (λ k. n * k ≤ 25092) (sym size) (frames_most start.requires.0.valid)
 
   abbrev m : ℕ
-  m = first_challenge_length start.args.shape
+  m = first_challenge_length start.args.set.shape
 
   firsts_bound : n * m ≤ 2460
   firsts_bound = firsts_most start.requires.0.valid
@@ -84,7 +84,7 @@ loop-again c =
     let g = k in
     let a = (start g.before.before.before).args in
     let e = k.loop-e.e in
-    let given = ap₂ (λ (f g : List ℕ). offset_frame a.shape a.us.now a.vs.now a.lasts.now f g)
+    let given = ap₂ (λ (f g : List ℕ). offset_frame a.set.shape a.us.now a.vs.now a.lasts.now f g)
     (row_cut e (m g.before.before.before) a.firsts.now) (reworking_row k.loop-e.invariant.1 ∙ ap (λ z. row z e a.frames.now) (size g.before.before.before)) in
     (omega arith, reworking_lent k.loop-e.invariant.1 (fits i) (x.offset_frame.ensures ∙ given) x.offset_frame.auto.frame)
 
@@ -94,14 +94,14 @@ same_length c = let k = c in k.loop-e.invariant.1.done.long ∙ sym (whole k.bef
 returns : tie.Need-returns invariant-loop decreases-loop
 returns c =
     let k = c in
-    let e : k.loop-e.e ≡ (start k.before.before.before).args.shape.executions = omega arith in
+    let e : k.loop-e.e ≡ (start k.before.before.before).args.set.shape.executions = omega arith in
     reworking_all (rw e at k.loop-e.invariant.1) (omega arith)
 
 pub offset_frames_spec : {M : Type 1} → statement M
 offset_frames_spec =
     tie.close
     (tie.spec invariant-loop decreases-loop
-    (λ c κs. c.requires.0.valid)
+    (λ c κs. tt)
     (λ c. omega (arith, columns_most (start c.before).requires.0.valid))
     (λ c. (omega arith, reworking_none _ _ (whole c.before)))
     (λ c. omega (arith, first_fits c, firsts_bound (f c)))

@@ -9,5 +9,5 @@ use Rattle.offsets.proofs.products.Given as goal
 abbrev pub invariant-loop-k : goal.invariant-loop-k
 invariant-loop-k l =
     Filling
-    (λ k. bit_xor (product_value l.shape l.first l.extra (row l.shape.m1 k l.us) (row l.shape.m1 k l.vs) (get_or l.lasts k 0)) (get_or l.shares k 0))
+    (λ k. bit_xor (product_value l.set.shape l.first l.extra (row l.set.shape.m1 k l.us) (row l.set.shape.m1 k l.vs) (get_or l.lasts k 0)) (get_or l.shares k 0))
     21 l.fn.out l.k l.out

@@ -15,28 +15,28 @@ unfolding open_answer
 returns-in_err-open c =
     let a = c.args in
     made_refused
-    (open_tests a.shape (length a.key.now) (length a.public.now) (length a.salt.now) (length a.root.now) (length a.first.now)
+    (open_tests a.set.shape (length a.key.now) (length a.public.now) (length a.salt.now) (length a.root.now) (length a.first.now)
     (length a.out.now) (length a.work.now))
-    refl c.open.ensures c.in_err-open.was c.from_residual.ensures.1 (in_order (range_tests a.shape a.e a.hidden a.second) (check_key (scheme_of a.shape) a.public.now a.key.now accepted))
-    (opening (scheme_of a.shape) a.key.now a.public.now a.salt.now a.root.now a.first.now a.e a.second a.hidden) a.out.now a.work.now
+    refl c.open.ensures c.in_err-open.was c.from_residual.ensures.1 (in_order (range_tests a.set.shape a.e a.hidden a.second) (check_key (scheme_of a.set.shape) a.public.now a.key.now accepted))
+    (opening (scheme_of a.set.shape) a.key.now a.public.now a.salt.now a.root.now a.first.now a.e a.second a.hidden) a.out.now a.work.now
 
 pub open_key-requires : goal.open_key-requires
 open_key-requires c =
     let a = c.args in
     let right =
     passes
-    (open_tests a.shape (length a.key.now) (length a.public.now) (length a.salt.now) (length a.root.now) (length a.first.now)
+    (open_tests a.set.shape (length a.key.now) (length a.public.now) (length a.salt.now) (length a.root.now) (length a.first.now)
     (length a.out.now) (length a.work.now))
     refl c.open.ensures c.in_ok-open.was in (
       record {
-        valid = c.requires.0;
+        valid = c.args.set.valid;
         key_size = eqb-true _ _ (right 0);
         public_size = eqb-true _ _ (right 1);
         salt_size = eqb-true _ _ (right 2);
         root_size = eqb-true _ _ (right 4);
         first_size = eqb-true _ _ (right 3);
       },
-      c.requires.1,
+      c.requires,
       leb-true _ _ (right 5),
       leb-true _ _ (right 6),
     )
@@ -46,10 +46,10 @@ unfolding open_answer
 returns c =
     let a = c.args in
     let tests =
-    open_tests a.shape (length a.key.now) (length a.public.now) (length a.salt.now) (length a.root.now) (length a.first.now)
+    open_tests a.set.shape (length a.key.now) (length a.public.now) (length a.salt.now) (length a.root.now) (length a.first.now)
     (length a.out.now) (length a.work.now) in
     c.open_key.ensures
     ∙ ap
     (λ (x : Answer).
-    made_after x (opening (scheme_of a.shape) a.key.now a.public.now a.salt.now a.root.now a.first.now a.e a.second a.hidden) a.out.now a.work.now)
-    (sym (passed_at tests (in_order (range_tests a.shape a.e a.hidden a.second) (check_key (scheme_of a.shape) a.public.now a.key.now accepted)) (passes tests refl c.open.ensures c.in_ok-open.was)))
+    made_after x (opening (scheme_of a.set.shape) a.key.now a.public.now a.salt.now a.root.now a.first.now a.e a.second a.hidden) a.out.now a.work.now)
+    (sym (passed_at tests (in_order (range_tests a.set.shape a.e a.hidden a.second) (check_key (scheme_of a.set.shape) a.public.now a.key.now accepted)) (passes tests refl c.open.ensures c.in_ok-open.was)))

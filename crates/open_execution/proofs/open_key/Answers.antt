@@ -33,22 +33,22 @@ module _ (S : Shape) (e hidden second : ℕ) {a : Answer} (is : a ≡ in_order (
 pub returns-in_err-ranges : goal.returns-in_err-ranges
 returns-in_err-ranges c =
     let a = c.args in
-    made_refused (range_tests a.shape a.e a.hidden a.second) refl c.ranges-2.ensures c.in_err-ranges.was c.from_residual.ensures.1
-    (check_key (scheme_of a.shape) a.public.now a.key.now accepted)
-    (opening (scheme_of a.shape) a.key.now a.public.now a.salt.now a.root.now a.first.now a.e a.second a.hidden) a.out.now a.work.now
+    made_refused (range_tests a.set.shape a.e a.hidden a.second) refl c.ranges-2.ensures c.in_err-ranges.was c.from_residual.ensures.1
+    (check_key (scheme_of a.set.shape) a.public.now a.key.now accepted)
+    (opening (scheme_of a.set.shape) a.key.now a.public.now a.salt.now a.root.now a.first.now a.e a.second a.hidden) a.out.now a.work.now
 
 pub returns-in_err-check_key : goal.returns-in_err-check_key
 returns-in_err-check_key c =
     let a = c.args in
-    let file = opening (scheme_of a.shape) a.key.now a.public.now a.salt.now a.root.now a.first.now a.e a.second a.hidden in
-    key_refused (scheme_of a.shape) a.public.now a.key.now c.check_key.ensures.value file a.out.now a.work.now
+    let file = opening (scheme_of a.set.shape) a.key.now a.public.now a.salt.now a.root.now a.first.now a.e a.second a.hidden in
+    key_refused (scheme_of a.set.shape) a.public.now a.key.now c.check_key.ensures.value file a.out.now a.work.now
     c.in_err-check_key.was c.from_residual-in_err-check_key.ensures.1
-    ∙ whole a.shape a.e a.hidden a.second c.ranges-2.ensures c.in_ok-ranges.was _ file a.out.now a.work.now
+    ∙ whole a.set.shape a.e a.hidden a.second c.ranges-2.ensures c.in_ok-ranges.was _ file a.out.now a.work.now
 
 pub overflow_cast-e : goal.overflow_cast-e
 overflow_cast-e c =
     let a = c.args in
-    let fits = ranges a.shape a.e a.hidden a.second c.ranges-2.ensures c.in_ok-ranges.was c.requires.0.valid c.requires.1 in
+    let fits = ranges a.set.shape a.e a.hidden a.second c.ranges-2.ensures c.in_ok-ranges.was c.requires.0.valid c.requires.1 in
     omega (arith, fits.execution, c.requires.0.valid.brief)
 
 pub make-requires : goal.make-requires
@@ -56,7 +56,7 @@ make-requires c =
     let a = c.args in
     let p = c.requires in (
       p.0,
-      ranges a.shape a.e a.hidden a.second c.ranges-2.ensures c.in_ok-ranges.was p.0.valid p.1,
+      ranges a.set.shape a.e a.hidden a.second c.ranges-2.ensures c.in_ok-ranges.was p.0.valid p.1,
       record { inputs_is = c.check_key.ensures.inputs_after; inverses_is = c.check_key.ensures.inverses_after },
       p.2,
       p.3,
@@ -65,7 +65,7 @@ make-requires c =
 pub returns : goal.returns
 returns c =
     let a = c.args in
-    let file = opening (scheme_of a.shape) a.key.now a.public.now a.salt.now a.root.now a.first.now a.e a.second a.hidden in
-    key_accepted (scheme_of a.shape) a.public.now a.key.now c.check_key.ensures.value file a.out.now a.work.now c.in_ok-check_key.was
+    let file = opening (scheme_of a.set.shape) a.key.now a.public.now a.salt.now a.root.now a.first.now a.e a.second a.hidden in
+    key_accepted (scheme_of a.set.shape) a.public.now a.key.now c.check_key.ensures.value file a.out.now a.work.now c.in_ok-check_key.was
     c.make.ensures.out_after (c.clear.ensures ∙ cleared_scratch c.make.ensures.scratch)
-    ∙ whole a.shape a.e a.hidden a.second c.ranges-2.ensures c.in_ok-ranges.was _ file a.out.now a.work.now
+    ∙ whole a.set.shape a.e a.hidden a.second c.ranges-2.ensures c.in_ok-ranges.was _ file a.out.now a.work.now

@@ -14,7 +14,7 @@ use Rattle.open_frames.proofs.open_frames.Goals as goal
 pub loop-e-init : goal.loop-e-init
 unfolding absorbed
 loop-e-init c = record {
-  frames = reworking_none _ _ (frames_whole c.requires.0 c.frame_length-len.ensures.0 c.requires.6);
+  frames = reworking_none _ _ (frames_whole c.args.set.valid c.frame_length-len.ensures.0 c.requires.5);
   parts = refl;
 }
 
@@ -22,32 +22,31 @@ pub open_frame-u-requires : goal.open_frame-u-requires
 open_frame-u-requires c =
     let a = c.args in
     let p = c.requires in
-    let S = a.shape in
+    let S = a.set.shape in
     let e = c.loop-e.e in
     let l = c.loop-e-test.true in
     let len = c.frame_length-len.result in
-    let root : e * 16 + 16 ≤ length a.roots.now = omega (arith, row_fits 16 l, p.2) in
+    let root : e * 16 + 16 ≤ length a.roots.now = omega (arith, row_fits 16 l, p.1) in
     let first : e * first_challenge_length S + first_challenge_length S ≤ length a.firsts.now =
-    omega (arith, row_fits (first_challenge_length S) l, p.4) in
+    omega (arith, row_fits (first_challenge_length S) l, p.3) in
     let frame : e * len + len ≤ length c.loop-e.frames = omega (arith, row_fits len l, c.loop-e.invariant.frames.done.long) in (
       p.0,
-      p.1,
       row_long e 16 a.roots.now root,
-      p.3,
+      p.2,
       row_long e (first_challenge_length S) a.firsts.now first,
-      rw c.second-second.ensures (second_wide p.0 e (bytes_of c.type_inv.seconds)),
+      rw c.second-second.ensures (second_wide c.args.set.valid e (bytes_of c.type_inv.seconds)),
       row_long e len c.loop-e.frames frame ∙ c.frame_length-len.ensures.0,
-      c.loop-e.auto.rows ∙ p.7,
+      c.loop-e.auto.rows ∙ p.6,
     )
 
 pub loop-e-preserved : goal.loop-e-preserved
 loop-e-preserved c =
     let a = c.args in
-    let S = a.shape in
+    let S = a.set.shape in
     let e = c.loop-e.e in
     let inv = c.loop-e.invariant in
     let u = c.open_frame-u in
-    let is = each_cut c.requires.0 c.frame_length-len.ensures.0 a.salt.now a.roots.now a.front.now a.firsts.now a.seconds.now a.frames.now e
+    let is = each_cut c.args.set.valid c.frame_length-len.ensures.0 a.salt.now a.roots.now a.front.now a.firsts.now a.seconds.now a.frames.now e
     c.second-second.ensures (reworking_row inv.frames) in
     record {
       frames =

@@ -9,6 +9,6 @@ use Rattle.open_frames.proofs.open_frames.Given as goal
 
 abbrev pub invariant-loop-e : goal.invariant-loop-e
 invariant-loop-e l = record {
-  frames : Reworking (each opened_frame l.shape l.salt l.roots l.front l.firsts l.seconds l.fn.frames) l.len l.e (l.n * l.len) l.fn.frames l.frames;
-  parts : l.t ≡ absorbed l.fn.start (rows_of (each opened_part l.shape l.salt l.roots l.front l.firsts l.seconds l.fn.frames) l.e);
+  frames : Reworking (each opened_frame l.set.shape l.salt l.roots l.front l.firsts l.seconds l.fn.frames) l.len l.e (l.n * l.len) l.fn.frames l.frames;
+  parts : l.t ≡ absorbed l.fn.start (rows_of (each opened_part l.set.shape l.salt l.roots l.front l.firsts l.seconds l.fn.frames) l.e);
 }

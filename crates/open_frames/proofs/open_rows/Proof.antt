@@ -19,9 +19,9 @@ module _ (l : tie.After-leaf_seeds-seeds) where
   abbrev start : tie.Start
   start = l.before.before.before.before.before.before.before
 
-  size : (k : ℕ) {f : List ℕ} → f ≡ frame_part (scheme_of start.args.shape) start.args.frame.now k
-      → length f ≡ get_or (frame_sizes start.args.shape) k 0
-  size k = part_long start.args.shape start.args.frame.now k start.requires.6
+  size : (k : ℕ) {f : List ℕ} → f ≡ frame_part (scheme_of start.args.set.shape) start.args.frame.now k
+      → length f ≡ get_or (frame_sizes start.args.set.shape) k 0
+  size k = part_long start.args.set.shape start.args.frame.now k start.requires.5
 
 abbrev leaved : tie.After-part-3 → tie.After-leaf_seeds-seeds
 leaved c = c.before.before.before.before
@@ -33,15 +33,14 @@ share-rows-requires c κs =
     let a = (start l).args in
     let p = (start l).requires in (
       p.0,
-      p.1,
-      seeds_room p.0 a.salt.now a.root.now a.e p.2 l.leaf_seeds-seeds.ensures,
-      p.3,
+      seeds_room (start l).args.set.valid a.salt.now a.root.now a.e p.1 l.leaf_seeds-seeds.ensures,
+      p.2,
       size l 2 x.part.ensures,
       size l 3 x.part-2.ensures,
-      p.4,
+      p.3,
       size l 4 x.part-3.ensures,
-      p.5,
-      p.7,
+      p.4,
+      p.6,
     )
 
 returns : tie.Need-returns
@@ -51,18 +50,18 @@ returns c =
     let l = leaved x in
     let a = (start l).args in
     let p = (start l).requires in
-    rows_opened p.0 a.front.now a.salt.now a.root.now a.e a.first.now a.second a.frame.now p.2
+    rows_opened (start l).args.set.valid a.front.now a.salt.now a.root.now a.e a.first.now a.second a.frame.now p.1
     l.leaf_seeds-seeds.ensures x.part.ensures x.part-2.ensures x.part-3.ensures r.share_rows.ensures
 
 pub open_rows_spec : {M : Type 1} → statement M
 open_rows_spec =
     tie.close
     (tie.spec
-    (λ c κs. let p = c.requires in (p.0, p.1, p.2))
+    (λ c κs. let p = c.requires in (p.0, p.1))
     (λ c. sym c.leaf_seeds-seeds.type_inv.1.0.1)
-    (λ c κs. let p = (start c.before).requires in (p.0, lit< tt, p.6))
-    (λ c κs. let p = (start c.before.before).requires in (p.0, lit< tt, p.6))
-    (λ c κs. let p = (start c.before.before.before).requires in (p.0, lit< tt, p.6))
+    (λ c κs. let p = (start c.before).requires in (lit< tt, p.5))
+    (λ c κs. let p = (start c.before.before).requires in (lit< tt, p.5))
+    (λ c κs. let p = (start c.before.before.before).requires in (lit< tt, p.5))
     share-rows-requires
     (λ c. c.share_rows.auto.out)
     returns)

@@ -4,4 +4,4 @@ use Rattle.forms.specs.Point.{tabled_row}
 use Rattle.opened.proofs.rows.Given as goal
 
 abbrev pub invariant-loop-j : goal.invariant-loop-j
-invariant-loop-j l = Filling (tabled_row l.shape l.bytes l.tables) l.shape.m1 l.fn.out l.j l.out
+invariant-loop-j l = Filling (tabled_row l.set.shape l.bytes l.tables) l.set.shape.m1 l.fn.out l.j l.out

@@ -10,10 +10,10 @@ returns : tie.Need-returns
 returns c =
     let t = c in
     let s = t in
-    (ap (λ n. n + (1 + s.args.shape.depth * 16)) t.transcript_length.ensures.0, omega (arith, t.transcript_length.ensures.1, s.requires.shallow))
+    (ap (λ n. n + (1 + s.args.set.shape.depth * 16)) t.transcript_length.ensures.0, omega (arith, t.transcript_length.ensures.1, s.args.set.valid.shallow))
 
 pub opening_length_spec : {M : Type 1} → statement M
 opening_length_spec =
     tie.close
     (tie.spec (λ c κs. search rules) (λ c. search rules) (λ c. search rules)
-    (λ c. omega (arith, c.transcript_length.ensures.1, c.requires.shallow)) returns)
+    (λ c. omega (arith, c.transcript_length.ensures.1, c.args.set.valid.shallow)) returns)

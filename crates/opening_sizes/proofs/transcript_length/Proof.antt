@@ -9,10 +9,10 @@ use Rattle.opening_sizes.proofs.transcript_length.Tie as tie
 
 offset-requires : tie.Need-offset-requires
 offset-requires c κs =
-    let e = c.transcript_sizes.ensures in (rw e (omega arith), sizes_fit e (transcript_most c.requires) (lit< tt))
+    let e = c.transcript_sizes.ensures in (rw e (omega arith), sizes_fit e (transcript_most c.args.set.valid) (lit< tt))
 
 returns : tie.Need-returns
-returns c = offset_is c.transcript_sizes.ensures (transcript_most c.requires) 12 c.offset.ensures
+returns c = offset_is c.transcript_sizes.ensures (transcript_most c.args.set.valid) 12 c.offset.ensures
 
 pub transcript_length_spec : {M : Type 1} → statement M
 transcript_length_spec = tie.close (tie.spec (λ c κs. search rules) (λ c. search rules) offset-requires returns)

@@ -18,12 +18,12 @@ use Rattle.output_shares.proofs.output_shares.Statement.{statement}
 use Rattle.output_shares.proofs.output_shares.Tie as tie
 
 abbrev invariant-loop : tie.invariant-loop-i
-invariant-loop shape front key inverse tapes out₀ size sboxes' inverses₀ inputs₀ n i₀ out inverses inputs i =
-    (i ≤ n) × (length inverses ≡ sboxes shape) × (length inputs ≡ sboxes shape)
-    × Stacking (λ i. output_share (scheme_of shape) (committed front key inverse) i (row (total (tape_sizes shape)) i tapes)) 16 i (n * 16) out
+invariant-loop set front key inverse tapes out₀ size sboxes' inverses₀ inputs₀ n i₀ out inverses inputs i =
+    (i ≤ n) × (length inverses ≡ sboxes set.shape) × (length inputs ≡ sboxes set.shape)
+    × Stacking (λ i. output_share (scheme_of set.shape) (committed front key inverse) i (row (total (tape_sizes set.shape)) i tapes)) 16 i (n * 16) out
 
 abbrev decreases-loop : tie.decreases-loop-i
-decreases-loop shape front key inverse tapes out₀ size sboxes' inverses₀ inputs₀ n i₀ out inverses inputs i = n - i
+decreases-loop set front key inverse tapes out₀ size sboxes' inverses₀ inputs₀ n i₀ out inverses inputs i = n - i
 
 module _ (c : tie.In-loop-i invariant-loop decreases-loop) where
   abbrev k : tie.At-loop-i invariant-loop decreases-loop
@@ -35,30 +35,30 @@ module _ (c : tie.In-loop-i invariant-loop decreases-loop) where
   abbrev size : ℕ
   size = k.tape_length-size.result
 
-  tape_size : size ≡ total (tape_sizes s.args.shape)
+  tape_size : size ≡ total (tape_sizes s.args.set.shape)
   tape_size = k.tape_length-size.ensures.0
 
   -- row i of the tapes is there
   read : k.loop-i.i * size + size ≤ length s.args.tapes.now
-  read = omega (arith, row_fits size c.loop-i-test.true, s.requires.4, ap (s.args.shape.parties *◌) tape_size)
+  read = omega (arith, row_fits size c.loop-i-test.true, s.requires.3, ap (s.args.set.shape.parties *◌) tape_size)
 
   most : length s.args.tapes.now ≤ 59136
-  most = omega (arith, s.requires.4, tapes_most s.requires.0 (tape_most s.requires.0))
+  most = omega (arith, s.requires.3, tapes_most s.args.set.valid (tape_most s.args.set.valid))
 
   tape_is : take (k.loop-i.i * size + size - k.loop-i.i * size) (drop (k.loop-i.i * size) s.args.tapes.now)
-      ≡ row (total (tape_sizes s.args.shape)) k.loop-i.i s.args.tapes.now
+      ≡ row (total (tape_sizes s.args.set.shape)) k.loop-i.i s.args.tapes.now
   tape_is = row_cut k.loop-i.i size s.args.tapes.now ∙ ap (λ n. row n k.loop-i.i s.args.tapes.now) tape_size
 
 loop-holds : tie.Need-loop-i-init invariant-loop decreases-loop
 loop-holds c =
-    let lent = sboxes_lent c.requires.0 (replicate 200 0) refl in (search rules, lent, lent, stacking_none _ _ c.requires.5)
+    let lent = sboxes_lent c.args.set.valid (replicate 200 0) refl in (search rules, lent, lent, stacking_none _ _ c.requires.4)
 
 walk-requires : tie.Need-walk-share-requires invariant-loop decreases-loop
 walk-requires c κs =
     let t = c.before.before.before in
     let p = (s t).requires in
     let long = row_long (k t).loop-i.i (size t) (s t).args.tapes.now (read t) ∙ tape_size t in
-    (p.0, p.1, p.2, p.3, long, (k t).loop-i.invariant.1, (k t).loop-i.invariant.2)
+    (p.0, p.1, p.2, long, (k t).loop-i.invariant.1, (k t).loop-i.invariant.2)
 
 copy-at-requires : tie.Need-copy_at-requires invariant-loop decreases-loop
 copy-at-requires c κs =
@@ -71,7 +71,7 @@ loop-again c =
     let t = c.before.before.before.before.before.before.before.before.before.before.before.before.before in
     let a = (s t).args in
     let long : length c.walk-share.result ≡ 16 = search rules in
-    let same = ap (output_share (scheme_of a.shape) (committed a.front.now a.key.now a.inverse.now) (k t).loop-i.i) (tape_is t) in (
+    let same = ap (output_share (scheme_of a.set.shape) (committed a.front.now a.key.now a.inverse.now) (k t).loop-i.i) (tape_is t) in (
       omega arith,
       c.walk-share.auto.inverses ∙ (k t).loop-i.invariant.1,
       c.walk-share.auto.inputs ∙ (k t).loop-i.invariant.2,
@@ -79,19 +79,19 @@ loop-again c =
     )
 
 same_length : tie.Need-shape_of-out invariant-loop decreases-loop
-same_length c = c.loop-i.invariant.3.long ∙ sym c.requires.5
+same_length c = c.loop-i.invariant.3.long ∙ sym c.requires.4
 
 returns : tie.Need-returns invariant-loop decreases-loop
 returns c =
-    let e : c.loop-i.i ≡ c.args.shape.parties = omega arith in
+    let e : c.loop-i.i ≡ c.args.set.shape.parties = omega arith in
     stacking_all (rw e at c.loop-i.invariant.3) (omega arith)
 
 pub output_shares_spec : {M : Type 1} → statement M
 output_shares_spec =
     tie.close
-    (tie.spec invariant-loop decreases-loop (λ c κs. search rules) (λ c. let v = c.requires.0 in omega (arith, all_sboxes v, v.columns))
+    (tie.spec invariant-loop decreases-loop (λ c κs. search rules) (λ c. let v = c.args.set.valid in omega (arith, all_sboxes v, v.columns))
     (λ c. search rules)
-    (λ c. search rules) (λ c. let v = c.requires.0 in omega (arith, all_sboxes v, v.columns)) (λ c. search rules) (λ c. search rules)
-    (λ c. let v = c.requires.0 in omega (arith, all_sboxes v, v.columns)) loop-holds
+    (λ c. search rules) (λ c. let v = c.args.set.valid in omega (arith, all_sboxes v, v.columns)) (λ c. search rules) (λ c. search rules)
+    (λ c. let v = c.args.set.valid in omega (arith, all_sboxes v, v.columns)) loop-holds
     (λ c. omega (arith, read c, most c)) (λ c. omega (arith, read c, most c)) (λ c. search rules) (λ c. search rules) (λ c. read c) walk-requires
     (λ c. search rules) (λ c. search rules) copy-at-requires (λ c. search rules) (λ c. search rules) loop-again same_length returns)

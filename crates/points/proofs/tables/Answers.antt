@@ -6,4 +6,4 @@ use Rattle.points.proofs.tables.Goals as goal
 pub returns-clause-out_after : goal.returns-clause-out_after
 returns-clause-out_after c =
     let f = c.field_of-field.ensures in
-    tables_right c.requires.0 c.args.x {values = c.values.new.out} (c.bits.ensures ∙ f.bits) (c.low.ensures ∙ f.low) (search rules) (c.powers-p.ensures ∙ f.powers) c.tables.ensures
+    tables_right c.args.set.valid c.args.x {values = c.values.new.out} (c.bits.ensures ∙ f.bits) (c.low.ensures ∙ f.low) (search rules) (c.powers-p.ensures ∙ f.powers) c.tables.ensures

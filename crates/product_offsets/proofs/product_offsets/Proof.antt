@@ -40,7 +40,7 @@ start c = c.before.before.before.before.before.before.before.before
 
 module _ (c : tie.After-points-1) where
   abbrev m : ℕ
-  m = (start c).args.shape.m1
+  m = (start c).args.set.shape.m1
 
   draws_lent : length {A = ℕ} (take (m - 0) (replicate 10 0)) ≡ m
   draws_lent = columns_lent (start c).requires.0.valid (replicate 10 0) refl
@@ -75,7 +75,6 @@ products-requires c κs =
     let x = at_load (at-tape-part y) in
     let o = at-points x in
     let g = (start o).requires.0 in (
-      g.valid,
       x.load.auto.out ∙ draws_lent o,
       y.load-2.auto.out ∙ extra_lent o,
       z.load-3.auto.out,

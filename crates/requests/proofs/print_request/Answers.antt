@@ -30,4 +30,4 @@ sign_request-requires c =
     c.read_lines.ensures.value ∙ ap (λ (s : List ℕ). check_lines 3 s 1 text accepted) c.request_sizes-sizes.ensures in
     let bytes = c.read_lines.ensures.out_after
     ∙ ap (λ (s : List ℕ). output_after c.read_lines.result (decoded_lines (length s) text) room) c.request_sizes-sizes.ensures in
-    (valid_base, read base_scheme text c.read_lines.new.out room is bytes c.in_default.is, refl, lit≤ tt, c.requires)
+    (read base_scheme text c.read_lines.new.out room is bytes c.in_default.is, refl, lit≤ tt, c.requires)

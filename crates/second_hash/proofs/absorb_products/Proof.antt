@@ -13,10 +13,10 @@ use Rattle.second_hash.proofs.absorb_products.Statement.{statement}
 use Rattle.second_hash.proofs.absorb_products.Tie as tie
 
 abbrev invariant-loop : tie.invariant-loop-e
-invariant-loop shape s n t₀ e₀ t e = (e ≤ n) × (t ≡ absorbed t₀ (rows (offsets_of shape s) e))
+invariant-loop set s n t₀ e₀ t e = (e ≤ n) × (t ≡ absorbed t₀ (rows (offsets_of set.shape s) e))
 
 abbrev decreases-loop : tie.decreases-loop-e
-decreases-loop shape s n t₀ e₀ t e = n - e
+decreases-loop set s n t₀ e₀ t e = n - e
 
 loop-holds : tie.Need-loop-e-init invariant-loop decreases-loop
 unfolding absorbed
@@ -24,18 +24,18 @@ loop-holds c = (omega arith, refl)
 
 part-requires : tie.Need-part-requires invariant-loop decreases-loop
 part-requires c κs =
-    (c.requires.0, lit< tt, ap length c.frame-frame.ensures ∙ length_frame c.args.shape c.args.s.now c.requires.1 c.loop-e-test.true)
+    (lit< tt, ap length c.frame-frame.ensures ∙ length_frame c.args.set.shape c.args.s.now c.requires c.loop-e-test.true)
 
 loop-again : tie.Need-loop-e-preserved invariant-loop decreases-loop
 loop-again c =
     let a = c.args in (
       omega arith,
-      one_more a.shape a.s.now c.loop-e.e a.start c.frame-frame.ensures c.part.ensures c.loop-e.invariant.1 c.absorb-u.ensures,
+      one_more a.set.shape a.s.now c.loop-e.e a.start c.frame-frame.ensures c.part.ensures c.loop-e.invariant.1 c.absorb-u.ensures,
     )
 
 returns : tie.Need-returns invariant-loop decreases-loop
 returns c =
-    let e : c.loop-e.e ≡ c.args.shape.executions = omega arith in
+    let e : c.loop-e.e ≡ c.args.set.shape.executions = omega arith in
     rw e at c.loop-e.invariant.1
 
 pub absorb_products_spec : {M : Type 1} → statement M

@@ -17,11 +17,11 @@ returns c =
     let h = t in
     let k = h in
     let a = k.args in
-    second_hashed a.shape a.s.now (bytes_of k.shared_slice_known-1.given)
+    second_hashed a.set.shape a.s.now (bytes_of k.shared_slice_known-1.given)
     (t.tagged-start.ensures ∙ ap (λ x. absorbed empty (2 ∷ x)) h.h1.ensures) p.absorb_products-t.ensures o.output.ensures
 
 pub second_hash_spec : {M : Type 1} → statement M
 second_hash_spec =
     tie.close
-    (tie.spec (λ c κs. omega (arith, c.requires.1)) (λ c κs. search rules) (λ c κs. search rules) (λ c. search rules)
+    (tie.spec (λ c κs. omega (arith, c.requires)) (λ c κs. search rules) (λ c κs. search rules) (λ c. search rules)
     (λ c κs. search rules) returns)

@@ -9,10 +9,10 @@ use Rattle.sets.proofs.tape_length.Tie as tie
 
 offset-requires : tie.Need-offset-requires
 offset-requires c κs =
-    let e = c.tape_sizes.ensures in (rw e (omega arith), sizes_fit e (tape_most c.requires) (lit< tt))
+    let e = c.tape_sizes.ensures in (rw e (omega arith), sizes_fit e (tape_most c.args.set.valid) (lit< tt))
 
 returns : tie.Need-returns
-returns c = offset_is c.tape_sizes.ensures (tape_most c.requires) 4 c.offset.ensures
+returns c = offset_is c.tape_sizes.ensures (tape_most c.args.set.valid) 4 c.offset.ensures
 
 pub tape_length_spec : {M : Type 1} → statement M
 tape_length_spec = tie.close (tie.spec (λ c κs. search rules) (λ c. search rules) offset-requires returns)

@@ -19,16 +19,16 @@ use Rattle.share_check.proofs.fill_rows.Tie as tie
 -- ---- earlier moments
 
 abbrev rows-before-field5 : tie.After-field-5 → tie.After-rows
-rows-before-field5 c = c.before.before.before.before.before.before.before.before
+rows-before-field5 c = c.before.before.before.before.before.before.before.before.before
 
 abbrev field-before-share-rows : tie.After-share_rows → tie.After-field
-field-before-share-rows c = c.before.before.before.before.before.before.before
+field-before-share-rows c = c.before.before.before.before.before.before.before.before
 
 abbrev start-before-field : tie.After-field → tie.Start
 start-before-field c = c.before.before.before.before.before.before.before.before.before.before.before
 
 abbrev transcript-sizes-before-front : tie.After-front → tie.After-transcript_sizes
-transcript-sizes-before-front c = c.before.before.before.before.before.before.before
+transcript-sizes-before-front c = c.before.before.before.before.before.before.before.before
 
 -- ---- where the sizes are known
 
@@ -41,20 +41,20 @@ module _ (z : tie.After-transcript_sizes) where
 
   -- how long each half is
   abbrev n : ℕ
-  n = start.args.shape.parties * total (row_sizes start.args.shape)
+  n = start.args.set.shape.parties * total (row_sizes start.args.set.shape)
 
   -- field k can be taken, and has its size
   asked : (k : ℕ) → k < 12 → (k < length sizes) × (total sizes ≤ length start.args.transcript.now) × (total sizes < 2 ^ 63)
   asked = transcript_fits start.requires.0.valid start.args.transcript.now z.transcript_sizes.ensures start.requires.0.stated.size
 
-  size : (k : ℕ) {f : List ℕ} → f ≡ field sizes k start.args.transcript.now → length f ≡ get_or (transcript_sizes start.args.shape) k 0
-  size k = field_size start.args.shape start.args.transcript.now k z.transcript_sizes.ensures start.requires.0.stated.size
+  size : (k : ℕ) {f : List ℕ} → f ≡ field sizes k start.args.transcript.now → length f ≡ get_or (transcript_sizes start.args.set.shape) k 0
+  size k = field_size start.args.set.shape start.args.transcript.now k z.transcript_sizes.ensures start.requires.0.stated.size
 
 rows-requires : tie.Need-rows-requires
 rows-requires c κs =
     let z = c.before.before in
     let p = (start z).requires in
-    (p.0.valid, p.0.stated.size, first_lent (start z).args.rows.now (n z) p.2)
+    (p.0.stated.size, first_lent (start z).args.rows.now (n z) p.2)
 
 -- ---- where the stated rows are written
 
@@ -76,10 +76,9 @@ share-rows-requires c κs =
     let r = (rows-before-field5 c.before) in
     let z = z1 r in
     let p = (start z).requires in (
-      p.0.valid,
       size z 0 c.field.ensures,
       p.1,
-      front_long (start z).args.shape (start z).args.public.now p.0.key.size c.front.ensures,
+      front_long (start z).args.set.shape (start z).args.public.now p.0.key.size c.front.ensures,
       size z 4 c.field-2.ensures,
       size z 5 c.field-3.ensures,
       size z 6 c.field-4.ensures,
@@ -111,10 +110,10 @@ returns c =
 pub fill_rows_spec : {M : Type 1} → statement M
 fill_rows_spec =
     tie.close
-    (tie.spec (λ c κs. c.requires.0.valid) (λ c. sym (ap length c.transcript_sizes.ensures))
+    (tie.spec (λ c κs. tt) (λ c. sym (ap length c.transcript_sizes.ensures))
     (λ c. zero-le) (λ c. zero-le) (λ c. half_most _)
     rows-requires (λ c κs. asked c.before.before.before.before.before 0 (omega arith))
-    (λ c κs. (start-before-field c).requires.0.key.size)
+    (λ c κs. (start-before-field c.before).requires.0.key.size)
     (λ c κs. asked (transcript-sizes-before-front c) 4 (omega arith))
     (λ c κs. asked (transcript-sizes-before-front c.before) 5 (omega arith))
     (λ c κs. asked (transcript-sizes-before-front c.before.before) 6 (omega arith))

@@ -13,8 +13,8 @@ use Rattle.sign_message.proofs.sign_key.Goals as goal
 pub returns-in_err-check_key : goal.returns-in_err-check_key
 returns-in_err-check_key c =
     let a = c.args in
-    key_refused (scheme_of a.shape) a.public.now a.key.now c.check_key.ensures.value
-    (signature (scheme_of a.shape) a.key.now a.public.now a.message.now a.salt.now a.seeds.now) a.out.now a.work.now
+    key_refused (scheme_of a.set.shape) a.public.now a.key.now c.check_key.ensures.value
+    (signature (scheme_of a.set.shape) a.key.now a.public.now a.message.now a.salt.now a.seeds.now) a.out.now a.work.now
     c.in_err-check_key.was c.from_residual.ensures.1
 
 pub returns : goal.returns
@@ -23,8 +23,8 @@ returns c =
     let size = c.signature_length-size.result in
     -- the output's front has a signature's length
     let room : size ≤ length a.out.now = subst (◌≤ length a.out.now) (sym c.signature_length-size.ensures.0) c.requires.1 in
-    key_accepted (scheme_of a.shape) a.public.now a.key.now c.check_key.ensures.value
-    (signature (scheme_of a.shape) a.key.now a.public.now a.message.now a.salt.now a.seeds.now) a.out.now a.work.now
+    key_accepted (scheme_of a.set.shape) a.public.now a.key.now c.check_key.ensures.value
+    (signature (scheme_of a.set.shape) a.key.now a.public.now a.message.now a.salt.now a.seeds.now) a.out.now a.work.now
     c.in_ok-check_key.was
     (front_output size a.out.now c.make.ensures.out_after (c.make.auto.out ∙ front_long size a.out.now room))
     (c.clear.ensures ∙ cleared_scratch c.make.ensures.scratch)

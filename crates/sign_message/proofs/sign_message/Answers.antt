@@ -19,21 +19,21 @@ unfolding sign_answer
 returns-in_err-sign c =
     let a = c.args in
     let tests : List Test =
-    sign_tests a.shape (length a.key.now) (length a.public.now) (length a.message.now) (length a.salt.now)
+    sign_tests a.set.shape (length a.key.now) (length a.public.now) (length a.message.now) (length a.salt.now)
     (length a.seeds.now) (length a.out.now) (length a.work.now) in
     made_refused tests refl c.sign.ensures c.in_err-sign.was c.from_residual.ensures.1
-    (check_key (scheme_of a.shape) a.public.now a.key.now accepted)
-    (signature (scheme_of a.shape) a.key.now a.public.now a.message.now a.salt.now a.seeds.now) a.out.now a.work.now
+    (check_key (scheme_of a.set.shape) a.public.now a.key.now accepted)
+    (signature (scheme_of a.set.shape) a.key.now a.public.now a.message.now a.salt.now a.seeds.now) a.out.now a.work.now
 
 pub sign_key-requires : goal.sign_key-requires
 sign_key-requires c =
     let a = c.args in
     let tests : List Test =
-    sign_tests a.shape (length a.key.now) (length a.public.now) (length a.message.now) (length a.salt.now)
+    sign_tests a.set.shape (length a.key.now) (length a.public.now) (length a.message.now) (length a.salt.now)
     (length a.seeds.now) (length a.out.now) (length a.work.now) in
     let right : (k : ℕ) → test_at tests k ≡ true = passes tests refl c.sign.ensures c.in_ok-sign.was in (
       record {
-        valid = c.requires;
+        valid = c.args.set.valid;
         key_size = eqb-true _ _ (right 0);
         public_size = eqb-true _ _ (right 1);
         salt_size = eqb-true _ _ (right 3);
@@ -48,9 +48,9 @@ unfolding sign_answer
 returns c =
     let a = c.args in
     let tests : List Test =
-    sign_tests a.shape (length a.key.now) (length a.public.now) (length a.message.now) (length a.salt.now)
+    sign_tests a.set.shape (length a.key.now) (length a.public.now) (length a.message.now) (length a.salt.now)
     (length a.seeds.now) (length a.out.now) (length a.work.now) in
     let right : (k : ℕ) → test_at tests k ≡ true = passes tests refl c.sign.ensures c.in_ok-sign.was in
-    let keyed : Answer = check_key (scheme_of a.shape) a.public.now a.key.now accepted in
-    let file = signature (scheme_of a.shape) a.key.now a.public.now a.message.now a.salt.now a.seeds.now in
+    let keyed : Answer = check_key (scheme_of a.set.shape) a.public.now a.key.now accepted in
+    let file = signature (scheme_of a.set.shape) a.key.now a.public.now a.message.now a.salt.now a.seeds.now in
     c.sign_key.ensures ∙ ap (λ (x : Answer). made_after x file a.out.now a.work.now) (sym (passed_at tests keyed right))

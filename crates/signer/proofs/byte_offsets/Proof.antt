@@ -15,14 +15,14 @@ offset-of-requires : tie.Need-offset_of-requires
 offset-of-requires c κs =
     let at_tape_part = c in
     let s = at_tape_part in
-    (s.requires.1 ∙ sym s.requires.4, part_long s.requires.0 0 s.args.sum.now s.requires.3 at_tape_part.tape_part.ensures ∙ sym s.requires.4)
+    (s.requires.0 ∙ sym s.requires.3, part_long s.args.set.valid 0 s.args.sum.now s.requires.2 at_tape_part.tape_part.ensures ∙ sym s.requires.3)
 
 offset-of-requires-2 : tie.Need-offset_of-requires-2
 offset-of-requires-2 c κs =
     let at_tape_part2 = c.before in
     let s = start-before-tape-part2 at_tape_part2 in (
-      s.requires.2 ∙ sym s.requires.5,
-      part_long s.requires.0 1 s.args.sum.now s.requires.3 at_tape_part2.tape_part-2.ensures ∙ sym s.requires.5,
+      s.requires.1 ∙ sym s.requires.4,
+      part_long s.args.set.valid 1 s.args.sum.now s.requires.2 at_tape_part2.tape_part-2.ensures ∙ sym s.requires.4,
     )
 
 returns : tie.Need-returns

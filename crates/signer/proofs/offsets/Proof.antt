@@ -29,14 +29,14 @@ start c = c.before.before.before.before.before.before.before.before.before.befor
 
 -- the room that is lent for the sum: as long as a tape
 module _ (c : tie.After-tape_length-size) where
-  long : length {A = ℕ} (take (c.tape_length-size.result - 0) (replicate 462 0)) ≡ total (tape_sizes (start c).args.shape)
+  long : length {A = ℕ} (take (c.tape_length-size.result - 0) (replicate 462 0)) ≡ total (tape_sizes (start c).args.set.shape)
   long = front_long (replicate 462 0) c.tape_length-size.ensures.0 c.tape_length-size.ensures.1
 
 -- and so it stays
 abbrev sized : tie.After-hash_sum → tie.After-tape_length-size
 sized c = c.before.before.before
 
-kept : (c : tie.After-hash_sum) → length c.hash_sum.new.out ≡ total (tape_sizes (start (sized c)).args.shape)
+kept : (c : tie.After-hash_sum) → length c.hash_sum.new.out ≡ total (tape_sizes (start (sized c)).args.set.shape)
 kept c = c.hash_sum.auto.out ∙ long (sized c)
 
 hash-sum-requires : tie.Need-hash_sum-requires
@@ -48,7 +48,7 @@ hash-sum-requires c κs =
 byte-offsets-requires : tie.Need-byte_offsets-requires
 byte-offsets-requires c κs =
     let h = c.before.before.before.before in
-    let p = (start (sized h)).requires in (p.0.valid, p.3, p.4, kept h, p.6, p.7)
+    let p = (start (sized h)).requires in (p.3, p.4, kept h, p.6, p.7)
 
 product-offsets-requires : tie.Need-product_offsets-requires
 product-offsets-requires c κs =
@@ -64,18 +64,18 @@ returns c =
     let s = start k in
     let a = s.args in
     let sum = tapes_summed s.requires.0.valid a.salt.now a.seeds.now a.e (long k) at_hash_sum.hash_sum.ensures in (
-      at_byte_offsets.byte_offsets.ensures.0 ∙ ap (λ t. zip_xor a.key.now (tape_part (scheme_of a.shape) 0 t)) sum,
+      at_byte_offsets.byte_offsets.ensures.0 ∙ ap (λ t. zip_xor a.key.now (tape_part (scheme_of a.set.shape) 0 t)) sum,
       (
-        at_byte_offsets.byte_offsets.ensures.1 ∙ ap (λ t. zip_xor a.inverses.now (tape_part (scheme_of a.shape) 1 t)) sum,
+        at_byte_offsets.byte_offsets.ensures.1 ∙ ap (λ t. zip_xor a.inverses.now (tape_part (scheme_of a.set.shape) 1 t)) sum,
         at_product_offsets.product_offsets.ensures
-            ∙ ap (λ t. worked_offsets a.shape a.us.now a.vs.now a.lasts.now t a.first.now) sum,
+            ∙ ap (λ t. worked_offsets a.set.shape a.us.now a.vs.now a.lasts.now t a.first.now) sum,
       ),
     )
 
 pub offsets_spec : {M : Type 1} → statement M
 offsets_spec =
     tie.close
-    (tie.spec (λ c κs. (start-before-slice-known3 c).requires.0.valid)
+    (tie.spec (λ c κs. tt)
     (λ c. zero-le) (λ c. zero-le) (λ c. c.tape_length-size.ensures.1) hash-sum-requires byte-offsets-requires product-offsets-requires
     (λ c. (byte-offsets-before-slice-known7 c).byte_offsets.auto.offset)
     (λ c. (byte-offsets-before-slice-known7 c).byte_offsets.auto.inverse)

@@ -7,10 +7,10 @@ use Rattle.forms.specs.Point.{value_s}
 use Rattle.st_values.proofs.values_s.Goals as goal
 
 pub mul-scaled-requires : goal.mul-scaled-requires
-mul-scaled-requires c = (wide_field c.requires.0).fits
+mul-scaled-requires c = (wide_field c.args.set.valid).fits
 
 pub mul-requires : goal.mul-requires
-mul-requires c = (wide_field c.requires.0).fits
+mul-requires c = (wide_field c.args.set.valid).fits
 
 pub loop-j-preserved : goal.loop-j-preserved
 unfolding value_s

@@ -6,4 +6,4 @@ use Rattle.st_values.proofs.values_s.Given as goal
 
 abbrev pub invariant-loop-j : goal.invariant-loop-j
 invariant-loop-j l =
-    Filling (λ j. value_s l.shape (get_or l.first j 0) (get_or l.rows j 0) (get_or l.extra (2 * j) 0) l.last) l.shape.m1 l.fn.out l.j l.out
+    Filling (λ j. value_s l.set.shape (get_or l.first j 0) (get_or l.rows j 0) (get_or l.extra (2 * j) 0) l.last) l.set.shape.m1 l.fn.out l.j l.out

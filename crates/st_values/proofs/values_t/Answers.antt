@@ -7,7 +7,7 @@ use Rattle.forms.specs.Point.{value_t}
 use Rattle.st_values.proofs.values_t.Goals as goal
 
 pub mul-requires : goal.mul-requires
-mul-requires c = (wide_field c.requires.0).fits
+mul-requires c = (wide_field c.args.set.valid).fits
 
 pub loop-j-preserved : goal.loop-j-preserved
 unfolding value_t

@@ -10,10 +10,10 @@ use Rattle.stated.proofs.rows.Statement.{statement}
 use Rattle.stated.proofs.rows.Tie as tie
 
 abbrev invariant-loop : tie.invariant-loop-i
-invariant-loop shape transcript out₀ len n i₀ out i = (i ≤ n) × Stacking (stated_row shape transcript) len i (n * len) out
+invariant-loop set transcript out₀ len n i₀ out i = (i ≤ n) × Stacking (stated_row set.shape transcript) len i (n * len) out
 
 abbrev decreases-loop : tie.decreases-loop-i
-decreases-loop shape transcript out₀ len n i₀ out i = n - i
+decreases-loop set transcript out₀ len n i₀ out i = n - i
 
 abbrev start : tie.At-loop-i invariant-loop decreases-loop → tie.Start invariant-loop decreases-loop
 start k = k.before.before.before.before
@@ -23,20 +23,20 @@ len k = k.row_length-len.result
 
 -- row i fits
 fits : (c : tie.In-loop-i invariant-loop decreases-loop)
-    → c.before.loop-i.i * len c.before + len c.before ≤ (start c.before).args.shape.parties * len c.before
+    → c.before.loop-i.i * len c.before + len c.before ≤ (start c.before).args.set.shape.parties * len c.before
 fits c = row_fits (len c.before) c.loop-i-test.true
 
 -- all of them are the output
 whole : (r : tie.After-row_length-len invariant-loop decreases-loop)
-    → length r.before.before.before.args.out.now ≡ r.before.before.before.args.shape.parties * r.row_length-len.result
-whole r = let s = r in s.requires.2 ∙ ap (s.args.shape.parties *◌) (sym r.row_length-len.ensures.0)
+    → length r.before.before.before.args.out.now ≡ r.before.before.before.args.set.shape.parties * r.row_length-len.result
+whole r = let s = r in s.requires.1 ∙ ap (s.args.set.shape.parties *◌) (sym r.row_length-len.ensures.0)
 
 stated-row-requires : tie.Need-stated_row-requires invariant-loop decreases-loop
 stated-row-requires c κs =
     let k = c.before.before in
     let s = start k in
     let long = row_long k.loop-i.i (len k) k.loop-i.out (omega (arith, fits c.before, k.loop-i.invariant.1.long)) in
-    (s.requires.0, s.requires.1, omega arith, long ∙ k.row_length-len.ensures.0)
+    (s.requires.0, omega arith, long ∙ k.row_length-len.ensures.0)
 
 loop-again : tie.Need-loop-i-preserved invariant-loop decreases-loop
 loop-again c =
@@ -48,7 +48,7 @@ loop-again c =
 returns : tie.Need-returns invariant-loop decreases-loop
 returns c =
     let k = c.before in
-    let e : k.loop-i.i ≡ (start k).args.shape.parties = omega arith in
+    let e : k.loop-i.i ≡ (start k).args.set.shape.parties = omega arith in
     stacking_all (rw e at k.loop-i.invariant.1) (omega arith)
 
 pub rows_spec : {M : Type 1} → statement M

@@ -14,7 +14,7 @@ use Rattle.sum_check.proofs.check_sums.Tie as tie
 sum-rows-requires : tie.Need-sum_rows-requires
 sum-rows-requires c κs =
     let s = c in
-    (s.requires.0.some, s.requires.1 ∙ ap (s.args.shape.parties *◌) (sym s.requires.2))
+    (s.args.set.valid.some, s.requires.0 ∙ ap (s.args.set.shape.parties *◌) (sym s.requires.1))
 
 -- ---- the sums and their sizes
 
@@ -29,19 +29,19 @@ module _ (r : tie.After-sum_rows) where
   kept = r.sum_rows.auto.out
 
   outputs_room : 16 ≤ length r.sum_rows.new.out
-  outputs_room = omega (arith, kept, (start r).requires.2)
+  outputs_room = omega (arith, kept, (start r).requires.1)
 
 module _ (z : tie.After-row_sizes) where
   abbrev sums : tie.After-sum_rows
   sums = summed z.before.before
 
-  long : length sums.sum_rows.new.out ≡ total (row_sizes (start sums).args.shape)
-  long = kept sums ∙ (start sums).requires.2
+  long : length sums.sum_rows.new.out ≡ total (row_sizes (start sums).args.set.shape)
+  long = kept sums ∙ (start sums).requires.1
 
   fits : (k : ℕ) → k < 4
       → (k < length z.row_sizes.result) × (total z.row_sizes.result ≤ length sums.sum_rows.new.out)
       × (total z.row_sizes.result < 2 ^ 63)
-  fits = shares_fit (start sums).requires.0 sums.sum_rows.new.out z.row_sizes.ensures long
+  fits = shares_fit (start sums).args.set.valid sums.sum_rows.new.out z.row_sizes.ensures long
 
 abbrev sized : tie.After-field → tie.After-row_sizes
 sized f = f.before.before
@@ -53,17 +53,18 @@ holds-requires : tie.Need-holds-holds-requires
 holds-requires c κs =
     let z = sized (first c) in
     let r = sums z in
-    shares_sized (start r).requires.0 r.sum_rows.new.out z.row_sizes.ensures (long z) (first c).field.ensures
-    c.field-2.ensures c.field-3.ensures
+    let p = shares_sized (start r).args.set.valid r.sum_rows.new.out z.row_sizes.ensures (long z) (first c).field.ensures c.field-2.ensures
+    c.field-3.ensures in
+    (p.1, p.2, p.3)
 
 product_is : (c : tie.After-holds-holds)
     → c.holds-holds.result
-    ≡ row_product_holds (start (sums (sized (first c.before)))).args.shape (sums (sized (first c.before))).sum_rows.new.out
+    ≡ row_product_holds (start (sums (sized (first c.before)))).args.set.shape (sums (sized (first c.before))).sum_rows.new.out
 product_is c =
     let f = c.before in
     let z = sized (first f) in
     let r = sums z in
-    row_product (start r).requires.0 r.sum_rows.new.out z.row_sizes.ensures (long z) (first f).field.ensures
+    row_product (start r).args.set.valid r.sum_rows.new.out z.row_sizes.ensures (long z) (first f).field.ensures
     f.field-2.ensures f.field-3.ensures c.holds-holds.ensures
 
 -- ---- the answers
@@ -73,7 +74,7 @@ returns c =
     let q = c.before.before in
     let r = summed q in
     let s = start r in
-    outputs_miss s.args.shape s.args.rows.now s.args.ciphertext.now s.args.e s.requires.2 r.sum_rows.ensures
+    outputs_miss s.args.set.shape s.args.rows.now s.args.ciphertext.now s.args.e s.requires.1 r.sum_rows.ensures
     q.equal.ensures c.if-not-equal.true
 
 returns-2 : tie.Need-returns-then-not-holds
@@ -83,7 +84,7 @@ returns-2 c =
     let q = t.before in
     let r = summed q in
     let s = start r in
-    product_misses s.args.shape s.args.rows.now s.args.ciphertext.now s.args.e s.requires.2 r.sum_rows.ensures
+    product_misses s.args.set.shape s.args.rows.now s.args.ciphertext.now s.args.e s.requires.1 r.sum_rows.ensures
     q.equal.ensures (product_is h) t.if-not-equal.false c.if-not-holds.true
 
 returns-3 : tie.Need-returns
@@ -93,14 +94,14 @@ returns-3 c =
     let q = t.before in
     let r = summed q in
     let s = start r in
-    both_hold s.args.shape s.args.rows.now s.args.ciphertext.now s.args.e s.requires.2 r.sum_rows.ensures
+    both_hold s.args.set.shape s.args.rows.now s.args.ciphertext.now s.args.e s.requires.1 r.sum_rows.ensures
     q.equal.ensures (product_is h) t.if-not-equal.false c.if-not-holds.false
 
 pub check_sums_spec : {M : Type 1} → statement M
 check_sums_spec =
     tie.close
     (tie.spec sum-rows-requires (λ c. lit≤ tt) (λ c. lit≤ tt) (λ c. outputs_room c.before.before) (λ c κs. tt)
-    (λ c. omega (arith, (start (summed c.before.before)).requires.0.few)) (λ c. kept (summed c.before.before)) returns (λ c κs. (start (summed c.before)).requires.0)
+    (λ c. omega (arith, (start (summed c.before.before)).args.set.valid.few)) (λ c. kept (summed c.before.before)) returns (λ c κs. tt)
     (λ c. sym (ap length c.row_sizes.ensures)) (λ c κs. fits c.before 1 (omega arith)) (λ c κs. fits (sized c) 2 (omega arith))
     (λ c κs. fits (sized c.before) 3 (omega arith)) holds-requires (λ c. kept (sums (sized (first c.before.before)))) returns-2
     (λ c. kept (sums (sized (first c.before.before)))) returns-3)

@@ -7,12 +7,12 @@ use Rattle.tapes.proofs.tape_part.Tie as tie
 field-requires : tie.Need-field-requires
 field-requires c κs =
     let s = c in
-    sizes_fit s.requires.0 s.args.tape.now c.tape_sizes-sizes.ensures s.requires.1 s.requires.2
+    sizes_fit s.args.set.valid s.args.tape.now c.tape_sizes-sizes.ensures s.requires.0 s.requires.1
 
 returns : tie.Need-returns
 returns c =
     let s = c in
-    part_is s.requires.0 s.args.k s.args.tape.now c.tape_sizes-sizes.ensures c.field.ensures
+    part_is s.args.set.valid s.args.k s.args.tape.now c.tape_sizes-sizes.ensures c.field.ensures
 
 pub tape_part_spec : {M : Type 1} → statement M
 tape_part_spec =

@@ -12,23 +12,23 @@ use Rattle.true_rows.proofs.true_rows.Statement.{statement}
 use Rattle.true_rows.proofs.true_rows.Tie as tie
 
 abbrev invariant-loop : tie.invariant-loop-k
-invariant-loop shape inputs inverses us₀ vs₀ lasts₀ m k₀ us vs lasts k =
-    Filling (λ k. near shape (20 + k) 20) 21 lasts₀ k lasts
-    × Stacking (point_row shape inputs) shape.m1 k (21 * shape.m1) us
-    × Stacking (point_row shape inverses) shape.m1 k (21 * shape.m1) vs
+invariant-loop set inputs inverses us₀ vs₀ lasts₀ m k₀ us vs lasts k =
+    Filling (λ k. near set.shape (20 + k) 20) 21 lasts₀ k lasts
+    × Stacking (point_row set.shape inputs) set.shape.m1 k (21 * set.shape.m1) us
+    × Stacking (point_row set.shape inverses) set.shape.m1 k (21 * set.shape.m1) vs
 
 abbrev decreases-loop : tie.decreases-loop-k
-decreases-loop shape inputs inverses us₀ vs₀ lasts₀ m k₀ us vs lasts k = 21 - k
+decreases-loop set inputs inverses us₀ vs₀ lasts₀ m k₀ us vs lasts k = 21 - k
 
 abbrev start : tie.At-loop-k invariant-loop decreases-loop → tie.Start invariant-loop decreases-loop
 start l = l.before.before.before.before.before.before
 
 abbrev m : tie.At-loop-k invariant-loop decreases-loop → ℕ
-m l = (start l).args.shape.m1
+m l = (start l).args.set.shape.m1
 
 -- the indices of a turn
 at_turn : (i : tie.In-loop-k invariant-loop decreases-loop) → Turn (m i.before) i.before.loop-k.k
-at_turn i = turn (start i.before).requires.0.columns i.loop-k-test.true
+at_turn i = turn (start i.before).args.set.valid.columns i.loop-k-test.true
 
 -- the turn at whose end a number is written
 abbrev turned : tie.After-slice_known-in-loop-k-2-1 invariant-loop decreases-loop → tie.In-loop-k invariant-loop decreases-loop
@@ -37,7 +37,7 @@ turned c = c.before.before.before.before.before.before.before
 loop-holds : tie.Need-loop-k-init invariant-loop decreases-loop
 loop-holds c =
     let s = c in
-    (filling_none s.requires.5, stacking_none _ s.args.shape.m1 s.requires.3, stacking_none _ s.args.shape.m1 s.requires.4)
+    (filling_none s.requires.4, stacking_none _ s.args.set.shape.m1 s.requires.2, stacking_none _ s.args.set.shape.m1 s.requires.3)
 
 loop-again : tie.Need-loop-k-preserved invariant-loop decreases-loop
 loop-again c =
@@ -57,7 +57,7 @@ point-rows-requires c κs =
     let s = start l in
     let u = row_long l.loop-k.k (m l) l.loop-k.us (as_long (at_turn i).row_room l.loop-k.invariant.1.long) in
     let v = row_long l.loop-k.k (m l) l.loop-k.vs (as_long (at_turn i).row_room l.loop-k.invariant.2.long) in
-    (s.requires.0, point_fits s.requires.0 i.loop-k-test.true, s.requires.1, s.requires.2, u, v)
+    (point_fits s.args.set.valid i.loop-k-test.true, s.requires.0, s.requires.1, u, v)
 
 returns : tie.Need-returns invariant-loop decreases-loop
 returns c =
@@ -79,5 +79,5 @@ true_rows_spec =
     (λ c. (at_turn c.before).row_bytes) (λ c. le-add_right _ (m c.before.before)) (λ c. le-add_right _ (m c.before.before))
     (λ c. as_long (at_turn c.before).row_room c.loop-k.invariant.2.long) point-rows-requires
     (λ c. (at_turn (turned c)).number_bytes) last_fits (λ c. (at_turn (turned c)).next) (λ c. (at_turn (turned c)).nearer) loop-again
-    (λ c. c.loop-k.invariant.1.long ∙ sym (start c.before).requires.3) (λ c. c.loop-k.invariant.2.long ∙ sym (start c.before).requires.4)
-    (λ c. c.loop-k.invariant.0.long ∙ sym (start c.before).requires.5) returns)
+    (λ c. c.loop-k.invariant.1.long ∙ sym (start c.before).requires.2) (λ c. c.loop-k.invariant.2.long ∙ sym (start c.before).requires.3)
+    (λ c. c.loop-k.invariant.0.long ∙ sym (start c.before).requires.4) returns)

@@ -16,11 +16,11 @@ module _ (z : tie.After-card_sizes-sizes) where
   abbrev out : List ℕ
   out = start.args.out.now
 
-  together : Together start.args.shape start.args.public.now start.args.message.now start.args.signature.now
+  together : Together start.args.set.shape start.args.public.now start.args.message.now start.args.signature.now
       z.before.lines-lines.result z.card_sizes-sizes.result joined.join-end.result joined.join-end.new.bytes
   together = record {
-    key = start.requires.1;
-    exact = start.requires.2;
+    key = start.requires.0;
+    exact = start.requires.1;
     many = z.lines-lines.ensures.0;
     are = z.card_sizes-sizes.ensures;
     ends = joined.join-end.ensures.0;
@@ -28,16 +28,16 @@ module _ (z : tie.After-card_sizes-sizes) where
   }
 
 part-encode-lines-end-3 : tie.Need-slice_bounds-encode_lines-end-3
-part-encode-lines-end-3 c = let z = c.before.before in text_within (together z) (out z) (start z).requires.4
+part-encode-lines-end-3 c = let z = c.before.before in text_within (together z) (out z) (start z).requires.3
 
 encode-lines-requires : tie.Need-encode_lines-requires
-encode-lines-requires c κs = let z = c.before.before.before in card_lent (together z) (out z) (start z).requires.4
+encode-lines-requires c κs = let z = c.before.before.before in card_lent (together z) (out z) (start z).requires.3
 
 returns : tie.Need-returns
 returns c =
     let k = c in
     let z = k.before.before.before.before.before.before in
-    card_written (together z) (out z) (start z).requires.4 k.encode_lines.ensures
+    card_written (together z) (out z) (start z).requires.3 k.encode_lines.ensures
 
 pub write_card_spec : {M : Type 1} → statement M
 write_card_spec =

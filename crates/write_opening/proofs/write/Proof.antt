@@ -22,7 +22,7 @@ module _ (z : tie.After-transcript_length-d) where
   start = z.before.before.before.before.before.before.before.before.before.before
 
   abbrev S : Shape
-  S = start.args.shape
+  S = start.args.set.shape
 
   abbrev out : List ℕ
   out = start.args.out.now
@@ -40,7 +40,7 @@ module _ (z : tie.After-transcript_length-d) where
   d = z.transcript_length-d.result
 
   room : length out ≡ d + 1 + S.depth * 16
-  room = omega (arith, start.requires.10, z.transcript_length-d.ensures.0)
+  room = omega (arith, start.requires.9, z.transcript_length-d.ensures.0)
 
 -- ---- what is written after each call
 
@@ -80,13 +80,12 @@ write-transcript-requires c κs =
     let z = c.before in
     let p = (start z).requires in (
       p.0,
-      p.1,
+      p.3,
       p.4,
       p.5,
       p.6,
       p.7,
       p.8,
-      p.9,
       lent_long (d z) (wrote_none (out z)) (omega (arith, room z))
           ∙ omega (arith, z.transcript_length-d.ensures.0),
     )
@@ -96,8 +95,8 @@ sibling-seeds-requires c κs =
     let w = c.before.before.before in
     let z = z1 w in
     let s = start z in
-    let few : 2 ^ (S z).depth ≤ 2 ^ 7 = pow_mono {i = (S z).depth} s.requires.0.shallow in
-    (s.requires.1, s.requires.2, lent_long (length (out z)) (w2 w) (le_refl _) ∙ omega (arith, room z), omega (arith, few))
+    let few : 2 ^ (S z).depth ≤ 2 ^ 7 = pow_mono {i = (S z).depth} s.args.set.valid.shallow in
+    (s.requires.0, s.requires.1, lent_long (length (out z)) (w2 w) (le_refl _) ∙ omega (arith, room z), omega (arith, few))
 
 returns : tie.Need-returns
 returns c =
@@ -110,7 +109,7 @@ write_spec =
     tie.close
     (tie.spec (λ c κs. search rules) (λ c. omega (arith, c.transcript_length-d.ensures.1)) (λ c. search rules) (λ c. search rules)
     (λ c. omega (arith, room c)) write-transcript-requires
-    (λ c. omega (arith, (start (z1 c.before.before)).requires.3))
+    (λ c. omega (arith, (start (z1 c.before.before)).requires.2))
     (λ c. let w = c.before.before in omega (arith, room (z1 w), (w1 w).long))
     (λ c. omega (arith, room (z1 c.before.before)))
     (λ c. omega (arith, room (z1 c.before.before)))

@@ -24,7 +24,7 @@ module _ (c : tie.After-offset-b) where
   start = c.before.before.before.before.before.before.before
 
   abbrev n : ℕ
-  n = start.args.shape.parties
+  n = start.args.set.shape.parties
 
   abbrev salt : List ℕ
   salt = start.args.salt.now
@@ -42,16 +42,16 @@ module _ (c : tie.After-offset-b) where
   b = c.offset-b.result
 
   abbrev commits : List ℕ
-  commits = rows (λ i. commitment (scheme_of start.args.shape) salt e i (row 16 i start.args.seeds.now)) n
+  commits = rows (λ i. commitment (scheme_of start.args.set.shape) salt e i (row 16 i start.args.seeds.now)) n
 
   a_is : a ≡ 33
-  a_is = omega (arith, (offset_is c.transcript_sizes.ensures (transcript_most start.requires.0) 2 c.offset-a.ensures).0)
+  a_is = omega (arith, (offset_is c.transcript_sizes.ensures (transcript_most start.args.set.valid) 2 c.offset-a.ensures).0)
 
   b_is : b ≡ 33 + n * 32
-  b_is = omega (arith, (offset_is c.transcript_sizes.ensures (transcript_most start.requires.0) 3 c.offset-b.ensures).0)
+  b_is = omega (arith, (offset_is c.transcript_sizes.ensures (transcript_most start.args.set.valid) 3 c.offset-b.ensures).0)
 
   room : b ≤ length out
-  room = omega (arith, b_is, start.requires.3)
+  room = omega (arith, b_is, start.requires.2)
 
 -- what is written
 module _ (c : tie.After-copy_at) where
@@ -62,7 +62,7 @@ module _ (c : tie.After-copy_at) where
   salted = wrote_put (salt z1) (wrote_none (out z1)) refl c.copy_at.ensures (omega arith) c.copy_at.auto.dst
 
   w1 : Wrote (out z1) (salt z1 ++ (e z1 ∷ [])) (a z1) (set c.copy_at.new.dst (length (salt z1)) (e z1))
-  w1 = wrote_to (omega (arith, a_is z1, (start z1).requires.1)) refl (wrote_one (e z1) salted (omega (arith, room z1, b_is z1, (start z1).requires.1)))
+  w1 = wrote_to (omega (arith, a_is z1, (start z1).requires.0)) refl (wrote_one (e z1) salted (omega (arith, room z1, b_is z1, (start z1).requires.0)))
 
 module _ (c : tie.After-hash_rows) where
   abbrev c1 : tie.After-copy_at
@@ -81,19 +81,19 @@ module _ (c : tie.After-hash_rows) where
 offset-requires : tie.Need-offset-a-requires
 offset-requires c κs =
     let e = c.transcript_sizes.ensures in
-    (rw e (omega arith), sizes_fit e (transcript_most c.requires.0) (lit< tt))
+    (rw e (omega arith), sizes_fit e (transcript_most c.args.set.valid) (lit< tt))
 
 offset-requires-2 : tie.Need-offset-b-requires
 offset-requires-2 c κs =
     let e = c.transcript_sizes.ensures in
-    (rw e (omega arith), sizes_fit e (transcript_most c.requires.0) (lit< tt))
+    (rw e (omega arith), sizes_fit e (transcript_most c.args.set.valid) (lit< tt))
 
 hash-rows-requires : tie.Need-hash_rows-requires
 hash-rows-requires c κs =
     let k = c.before.before.before in
     let z = z1 k in
     let p = (start z).requires in
-    (p.1, omega (arith, p.0.few), p.2, lent_long (b z) (w1 k) (room z) ∙ omega (arith, a_is z, b_is z))
+    (p.0, omega (arith, (start z).args.set.valid.few), p.1, lent_long (b z) (w1 k) (room z) ∙ omega (arith, a_is z, b_is z))
 
 returns : tie.Need-returns
 returns c =
@@ -105,8 +105,8 @@ pub write_head_spec : {M : Type 1} → statement M
 write_head_spec =
     tie.close
     (tie.spec (λ c κs. search rules) (λ c. sym (ap length c.transcript_sizes.ensures)) offset-requires offset-requires-2
-    (λ c κs. let z = c.before in omega (arith, room z, b_is z, (start z).requires.1))
-    (λ c. let k = c.before.before in let z = z1 k in omega (arith, room z, b_is z, (start z).requires.1, (salted k).long))
+    (λ c κs. let z = c.before in omega (arith, room z, b_is z, (start z).requires.0))
+    (λ c. let k = c.before.before in let z = z1 k in omega (arith, room z, b_is z, (start z).requires.0, (salted k).long))
     (λ c. let z = z1 c.before.before in omega (arith, a_is z, b_is z))
     (λ c. let z = z1 c.before.before in omega (arith, a_is z, b_is z))
     (λ c. let k = c.before.before in omega (arith, room (z1 k), (w1 k).long))

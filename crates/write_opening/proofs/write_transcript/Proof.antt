@@ -33,7 +33,7 @@ module _ (z : tie.After-offset-at) where
   start = start-before-transcript-sizes sized
 
   abbrev S : Shape
-  S = start.args.shape
+  S = start.args.set.shape
 
   abbrev out : List ℕ
   out = start.args.out.now
@@ -50,19 +50,19 @@ module _ (z : tie.After-offset-at) where
 
   known : Known S sized.transcript_sizes.result parted.row_sizes.result start.args.rows.now
   known = record {
-    valid = start.requires.0;
+    valid = start.args.set.valid;
     sizes_are = sized.transcript_sizes.ensures;
     parts_are = parted.row_sizes.ensures;
-    rows_long = start.requires.7;
+    rows_long = start.requires.6;
   }
 
   -- the length of the transcript
   size : length out ≡ total (transcript_sizes S)
-  size = start.requires.8
+  size = start.requires.7
 
   -- where the middle begins, and where it ends
   at_is : z.offset-at.result ≡ total (take 4 (transcript_sizes S))
-  at_is = (offset_is sized.transcript_sizes.ensures (transcript_most start.requires.0) 4 z.offset-at.ensures).0
+  at_is = (offset_is sized.transcript_sizes.ensures (transcript_most start.args.set.valid) 4 z.offset-at.ensures).0
 
   middle_ends : total (take 9 (transcript_sizes S)) ≡ total (take 4 (transcript_sizes S)) + length between
   middle_ends =
@@ -71,10 +71,10 @@ module _ (z : tie.After-offset-at) where
         arith,
         middle_long S.wide start.args.key.now start.args.inverse.now start.args.first.now start.args.product.now
             start.args.second,
+        p.2,
         p.3,
         p.4,
         p.5,
-        p.6,
       )
 
 -- ---- what is written after each call
@@ -90,7 +90,7 @@ module _ (c : tie.After-write_head) where
   w1 =
       let a = (start z1).args in
       wrote_put (before_outputs z1) (wrote_none (out z1)) refl c.write_head.ensures
-      (omega (arith, head_long a.shape a.salt.now a.e a.seeds.now (start z1).requires.1)) c.write_head.auto.out
+      (omega (arith, head_long a.set.shape a.salt.now a.e a.seeds.now (start z1).requires.0)) c.write_head.auto.out
 
 module _ (c : tie.After-write_column) where
   abbrev c1 : tie.After-write_head
@@ -164,13 +164,13 @@ offset-requires c κs =
     let t = c.before.before.before in
     let e = t.transcript_sizes.ensures in
     let s = start-before-transcript-sizes t in
-    (rw e (omega arith), sizes_fit e (transcript_most s.requires.0) (lit< tt))
+    (rw e (omega arith), sizes_fit e (transcript_most s.args.set.valid) (lit< tt))
 
 write-head-requires : tie.Need-write_head-requires
 write-head-requires c κs =
     let z = c.before in
     let p = (start z).requires in
-    (p.0, p.1, p.2, omega (arith, size z))
+    (p.0, p.1, omega (arith, size z))
 
 asked0 : tie.Need-write_column-requires
 asked0 c κs =
@@ -181,7 +181,7 @@ write-middle-requires : tie.Need-write_middle-requires
 write-middle-requires c κs =
     let w = c.before.before.before in
     let z = z2 w in
-    (omega (arith, (start z).requires.0.wide_most), omega (arith, at_is z, middle_ends z, (w2 w).long, size z))
+    (omega (arith, (start z).args.set.valid.wide_most), omega (arith, at_is z, middle_ends z, (w2 w).long, size z))
 
 asked1 : tie.Need-write_column-requires-2
 asked1 c κs =
@@ -204,7 +204,7 @@ returns c =
     let z = z6 k in
     let a = (start z).args in
     wrote_whole (w6 k) (omega (arith, size z))
-    ∙ laid a.shape a.salt.now a.e a.seeds.now a.key.now a.inverse.now a.first.now a.product.now a.second a.rows.now
+    ∙ laid a.set.shape a.salt.now a.e a.seeds.now a.key.now a.inverse.now a.first.now a.product.now a.second a.rows.now
     (parted z).row_sizes.ensures
 
 pub write_transcript_spec : {M : Type 1} → statement M
