@@ -54,11 +54,11 @@ def listed(name):
 
 
 def const(name):
-    return r'\nconst %s: \[\w+; \d+\] = \[([^\]]*)\]' % name
+    return r'\n(?:const|static) %s: \[\w+; \d+\] = \[([^\]]*)\]' % name
 
 
-def answer(name):
-    return r'(?s)\npub fn %s\(\).*?\n\{\s*\[([^\]]*)\]' % name
+def arm(name):
+    return r'\n *Field::%s => \[([^\]]*)\]' % name
 
 
 def tables():
@@ -77,7 +77,7 @@ def tables():
         if n == 32:
             yield 'lifts/src/lib.rt', 'LIFT32', const('LIFT32'), [lift(powers, b) for b in range(256)]
         else:
-            yield 'lifts/src/lib.rt', 'powers%d' % n, answer('powers%d' % n), powers
+            yield 'lifts/src/lib.rt', 'the powers of Field::Bits%d' % n, arm('Bits%d' % n), powers
         for k in (21, 41):
             w = weights(f, k)
             spec = '%s/specs/Weights%d.antt' % ('weights' if n == 32 else 'weights48', n)
