@@ -6,7 +6,7 @@
  *
  * Link with libbanquet.a (`pkg-config --libs banquet`); in the repository, before
  * `make install`, with target/staticlib/libcapi.a. Both are for x86-64 Linux. It
- * needs nothing but memcpy, memmove and memset from the C library.
+ * needs nothing but memcpy and memset from the C library.
  *
  *
  * SLICES
@@ -73,7 +73,7 @@
  * are lent, not of locals that are gone, and a compiler may drop stores to
  * these. tests/residue.c searches the stack and finds
  *
- *   - after sign: half of the key;
+ *   - after public_key, and when sign or open is refused by 12: half of the key;
  *   - after public_key, sign and open, and when sign or open is refused by 12:
  *     key xor plaintext, which gives the key away;
  *   - after sign and open: seeds of hidden parties, which give it away, too;
@@ -138,11 +138,11 @@ extern "C" {
  * not proved.
  */
 #define BANQUET_STACK_PUBLIC_KEY 768
-#define BANQUET_STACK_SIGN 18952
-#define BANQUET_STACK_VERIFY 21176
-#define BANQUET_STACK_OPEN 17032
-#define BANQUET_STACK_VERIFY_OPENING 10840
-#define BANQUET_STACK_VERIFY_CARD 74168
+#define BANQUET_STACK_SIGN 19832
+#define BANQUET_STACK_VERIFY 22200
+#define BANQUET_STACK_OPEN 18072
+#define BANQUET_STACK_VERIFY_OPENING 12200
+#define BANQUET_STACK_VERIFY_CARD 75192
 
 /* Stack that is enough for one call of any kind, with margin. */
 #define BANQUET_STACK_BYTES 131072

@@ -149,16 +149,16 @@ int main(void)
     puts("  (whole, 8 bytes)");
     for (wiped = 0; wiped < 2; wiped++) {
         know_secrets(SIGN);
-        failed |= search(PUBLIC_KEY, 0, wiped, wiped ? "----" : "-+--");
-        failed |= search(SIGN, 0, wiped, wiped ? "----" : "/+-+");
+        failed |= search(PUBLIC_KEY, 0, wiped, wiped ? "----" : "/+--");
+        failed |= search(SIGN, 0, wiped, wiped ? "----" : "-+-+");
         failed |= search(VERIFY, 0, wiped, "----");
         failed |= search(VERIFY_CARD, 0, wiped, "----");
         know_secrets(OPEN);
         failed |= search(OPEN, 0, wiped, wiped ? "----" : "-+-+");
         failed |= search(VERIFY_OPENING, 0, wiped, "----");
         lent.public_key[31] ^= 1;
-        failed |= search(SIGN, BANQUET_REFUSED_WRONG_KEY, wiped, wiped ? "----" : "-+--");
-        failed |= search(OPEN, BANQUET_REFUSED_WRONG_KEY, wiped, wiped ? "----" : "-+--");
+        failed |= search(SIGN, BANQUET_REFUSED_WRONG_KEY, wiped, wiped ? "----" : "/+--");
+        failed |= search(OPEN, BANQUET_REFUSED_WRONG_KEY, wiped, wiped ? "----" : "/+--");
         lent.public_key[31] ^= 1;
     }
     failed |= !wipes_last();

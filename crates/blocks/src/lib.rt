@@ -20,6 +20,6 @@ pub fn block_at(s: &[u8], n: usize) -> [u8; 16]
 {
     let at = n * 16;
     let mut out = [0u8; 16];
-    out.copy_from_slice(&s[at..at + 16]);
+    slices::copy(&mut out, &s[at..at + 16]);
     out
 }

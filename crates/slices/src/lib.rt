@@ -14,7 +14,9 @@ pub fn copy(dst: &mut [u8], src: &[u8])
     requires { length dst.old ≡ length src.now }
     ensures { dst.new ≡ src.now }
 {
-    dst.copy_from_slice(src);
+    for (i, d) in dst.iter_mut().enumerate() {
+        *d = src[i];
+    }
 }
 
 // Writes src into dst from index at on.
@@ -23,5 +25,5 @@ pub fn copy_at(dst: &mut [u8], at: usize, src: &[u8])
     requires { at + length src.now ≤ length dst.old }
     ensures { dst.new ≡ put dst.old at src.now }
 {
-    dst[at..at + src.len()].copy_from_slice(src);
+    copy(&mut dst[at..at + src.len()], src);
 }
