@@ -3,10 +3,22 @@
 
 ghost use Rattle.std.specs.Prelude.{◌≡◌, MatchResult};
 ghost use Rattle.std.specs.Counts.{IsPrefixLen};
-ghost use Rattle.stdio.specs.Outcome.{outcome_of};
+ghost use Rattle.stdio.specs.Outcome.{outcome_of, ended};
 
 use std::io;
 use std::io::{Read, Write};
+
+// What the answer of a read or a write says: how many bytes were moved, none at the end, or what failed.
+#[tactic(auto, using(crate::proofs::Laws::outcome_end, crate::proofs::Laws::outcome_bytes, crate::proofs::Laws::outcome_failed))]
+fn outcome_of(answer: io::Result<usize>) -> io::Result<Option<usize>>
+    ensures { result ≡ outcome_of answer }
+{
+    match answer {
+        Ok(0) => Ok(None),
+        Ok(count) => Ok(Some(count)),
+        Err(error) => Err(error),
+    }
+}
 
 // A read failed after `length` bytes, so that the text may go on.
 #[derive(Clone, Copy)]
@@ -19,18 +31,21 @@ fn say_failed(rt: HostRuntime, what: &str, error: io::Error) {
     let _ = eprintln!(rt; "{what}: {error}");
 }
 
-// What the answer of a read says, after `length` bytes: how many more there are, 0 at the end of the text, or that it failed.
-fn outcome_of(
+// The input of `length` bytes after its last read.
+fn ended(
     rt: HostRuntime,
     length: usize,
-    answer: io::Result<usize>,
+    last: io::Result<Option<usize>>,
 ) -> Result<usize, ReadFailed>
-    ensures { result ≡ outcome_of length answer }
+    ensures { result ≡ ended length last }
 {
-    answer.map_err(|error| {
-        say_failed(rt, "standard input", error);
-        ReadFailed { length }
-    })
+    match last {
+        Ok(_) => Ok(length),
+        Err(error) => {
+            say_failed(rt, "standard input", error);
+            Err(ReadFailed { length })
+        }
+    }
 }
 
 // Reads standard input until `text` is full, the input ends or a read fails. One that a signal interrupts before it gives a byte counts as failed.
@@ -40,11 +55,10 @@ pub fn read(rt: HostRuntime, text: &mut [u8]) -> Result<usize, ReadFailed>
     let mut stdin = rt.stdin();
     let mut done = 0;
     while done < text.len() {
-        let more = outcome_of(rt, done, stdin.read(&mut text[done..]))?;
-        if more == 0 {
-            break;
+        match outcome_of(stdin.read(&mut text[done..])) {
+            Ok(Some(more)) => done += more,
+            last => return ended(rt, done, last),
         }
-        done += more;
     }
     Ok(done)
 }
@@ -56,12 +70,12 @@ pub fn write(rt: HostRuntime, bytes: &[u8]) -> usize
     let mut stdout = rt.stdout();
     let mut done = 0;
     while done < bytes.len() {
-        match stdout.write(&bytes[done..]) {
-            Ok(0) => {
+        match outcome_of(stdout.write(&bytes[done..])) {
+            Ok(Some(more)) => done += more,
+            Ok(None) => {
                 say_failed(rt, "standard output", io::Error::other("no more is taken"));
                 return done;
             }
-            Ok(more) => done += more,
             Err(error) => {
                 say_failed(rt, "standard output", error);
                 return done;
