@@ -1,10 +1,10 @@
 -- Numbers in bytes, low byte first, for the loops: a number read from its highest byte down, and the bytes of a number one by one. Assumes nothing.
 use Rattle.std.specs.List.{push}
-use Rattle.std.proofs.Common.{◌≡◌, refl, sym, ap, ◌∙◌, List, [], ◌∷◌, ◌++◌, append_assoc, append-nil, ℕ, ◌+◌, ◌*◌, ◌/◌, ◌%◌, ◌^◌, ◌<◌, ◌≤◌, length, length-append, get_or-append-add, arith}
-use Rattle.slices.specs.Lists.{tab}
-use Rattle.slices.specs.Tab.{tab_sized, tab_cong}
+use Rattle.std.proofs.Common.{◌≡◌, refl, sym, ap, ◌∙◌, List, [], ◌∷◌, ◌++◌, append_assoc, append-nil, ℕ, ◌+◌, ◌*◌, ◌/◌, ◌%◌, ◌^◌, ◌<◌, ◌≤◌, length, get_or, add-zero, length-append, get_or-append-add, arith}
+use Rattle.slices.specs.Lists.{tab, part}
+use Rattle.slices.specs.Tab.{tab_sized, tab_cong, length_part, part_tab, part_append}
 use Rattle.slices.specs.Bytes.{Bytes}
-use Rattle.slices.specs.Numbers.{number, bytes_of, get_d_bytes_of, length_bytes_of, number_lt}
+use Rattle.slices.specs.Numbers.{number, bytes_of, get_d_bytes_of, length_bytes_of, number_lt, number_append}
 
 -- ---- load: of the bytes p, at most eight, those of r are still to be read, and the others, which stand behind them, make x
 
@@ -40,6 +40,18 @@ reading_fits {p} {r} w =
     let long : length p ≡ length r + length w.read = ap length w.split ∙ length-append r w.read in
     let bytes : Bytes w.read = record { lt = λ i. rw (← get_or-append-add r w.read i 0, ← w.split) (w.bytes.lt (length r + i)) } in
     rw w.is (number_lt w.read 8 bytes (omega (arith, w.most)))
+
+-- ---- load4 and load8: four bytes, and four above them
+
+pub four_bytes : (s : List ℕ) (at : ℕ) → at + 4 ≤ length s → get_or s at 0 ∷ tab (λ i. get_or s (at + (i + 1)) 0) 3 ≡ part at 4 s
+four_bytes s at h = ap (λ n. get_or s n 0 ∷ tab (λ i. get_or s (at + (i + 1)) 0) 3) (sym (add-zero at)) ∙ sym (part_tab 4 at s h)
+
+pub eight_bytes : (s : List ℕ) (at : ℕ) → at + 8 ≤ length s
+    → number (part at 4 s) + 2 ^ 32 * number (part (at + 4) 4 s) ≡ number (part at 8 s)
+eight_bytes s at h =
+    let four : length (part at 4 s) ≡ 4 = length_part at 4 s (omega arith) in
+    sym (ap number (part_append at 4 4 s) ∙ number_append (part at 4 s) (part (at + 4) 4 s)
+    ∙ ap (λ n. number (part at 4 s) + 2 ^ (8 * n) * number (part (at + 4) 4 s)) four)
 
 -- ---- store
 

@@ -10,8 +10,8 @@ ghost use Rattle.aes.specs.Aes.{first_zero};
 pub fn invert(s: &mut [u8])
     ensures { s.new ≡ map inverse8 s.old }
 {
-    for b in s.iter_mut() {
-        *b = inverses::inverse(*b);
+    for i in 0..s.len() {
+        s[i] = inverses::inverse(s[i]);
     }
 }
 
@@ -19,5 +19,10 @@ pub fn invert(s: &mut [u8])
 pub fn first_zero(s: &[u8]) -> Option<usize>
     ensures { result ≡ found (length s.now) (first_zero s.now) }
 {
-    s.iter().position(|b| *b == 0)
+    for (i, b) in s.iter().enumerate() {
+        if *b == 0 {
+            return Some(i);
+        }
+    }
+    None
 }

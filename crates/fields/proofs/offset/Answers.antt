@@ -22,4 +22,5 @@ sum-requires-clause-fits c =
 pub returns : goal.returns
 returns c =
     let first = take c.args.k c.args.sizes.now in
-    sum_from_yields_List c.iter.result _ c.sum.ensures.ran (YieldsList-from_slice first cc) ∙ sum_total first
+    let is = sum_from_yields_List c.iter.result _ c.sum.ensures.ran (YieldsList-from_slice first cc) in
+    omega (arith, is, sum_total first)

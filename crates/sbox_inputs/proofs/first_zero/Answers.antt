@@ -1,30 +1,22 @@
--- The first zero is the first byte that the closure takes for one. Assumes nothing.
-use Rattle.std.proofs.Common.{rules, arith, ◌≡◌, ◌∙◌, refl, sym, ap, ℕ, ◌+◌, zero, suc, Bool, true, false, List, ◌∷◌, length, Some, None, cond}
-use Rattle.std.specs.Bool.{◌==◌}
-use Rattle.std.specs.List.{position_or_len}
-use Rattle.std.proofs.lemmas.List.Recursion.{is_position_or_len}
-use Rattle.std.proofs.lemmas.Iterator.{YieldsList-from_slice}
-use Rattle.std.proofs.lemmas.Iterator.Search.{position_from_yields_List}
-use borrow.Author.Tests.{tests}
-use Rattle.slices.specs.Lists.{choose, found}
+-- `sbox_inputs::first_zero` looks at one element a turn. Assumes nothing.
+use Rattle.std.proofs.Common.{◌≡◌, sym, arith, length, add-one}
+use Rattle.slices.specs.Found.{found_some, found_none}
 use Rattle.aes.specs.Aes.{first_zero}
+use Rattle.aes.proofs.Zero.{first_zero_here, first_zero_later, first_zero_end}
 use Rattle.sbox_inputs.proofs.first_zero.Goals as goal
 
-first_zero_is : (s : List ℕ) → first_zero s ≡ position_or_len (λ b. b == 0) s
-unfolding first_zero
-first_zero_is s = is_position_or_len first_zero (λ b. b == 0) refl step s
-  where
-    step : (x : ℕ) (xs : List ℕ) → first_zero (x ∷ xs) ≡ cond (x == 0) 0 (1 + first_zero xs)
-    step zero xs = refl
-    step (suc x) xs = grind arith
+pub returns-then-b-eq0 : goal.returns-then-b-eq0
+returns-then-b-eq0 c =
+    let s = c.args.s.now in
+    let e : first_zero s ≡ c.loop-i.i = omega (arith, first_zero_here s c.loop-i.i c.loop-i-test.true c.if-b-eq0.true, c.loop-i.invariant) in
+    rw e (sym (found_some (length s) c.loop-i.i c.loop-i-test.true))
 
-tested : (t : Bool) (i : ℕ) → cond t (Some i) None ≡ choose t (Some i) None
-tested true i = refl
-tested false i = refl
+pub loop-i-preserved : goal.loop-i-preserved
+loop-i-preserved c =
+    rw add-one (omega (arith, first_zero_later c.args.s.now c.loop-i.i c.loop-i-test.true c.if-b-eq0.false, c.loop-i.invariant))
 
 pub returns : goal.returns
 returns c =
     let s = c.args.s.now in
-    position_from_yields_List (λ b. b == 0) _ _ _ c.position.ensures.ran (YieldsList-from_slice s (cc)) (λ x b q k. search (rules, tests))
-    ∙ tested _ _
-    ∙ ap (λ (i : ℕ). found (length s) i) (sym (first_zero_is s))
+    let e : first_zero s ≡ c.loop-i.i = omega (arith, first_zero_end s c.loop-i.i (omega arith), c.loop-i.invariant) in
+    rw e (sym (found_none (length s) c.loop-i.i (omega arith)))
